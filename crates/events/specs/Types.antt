@@ -1,0 +1,27 @@
+-- Sets of types, numbered 0 to 63.
+use mathlib.Core.Bool.{Bool, false, cond, _&&_, _||_}
+use Prim.Native.Nat.{ℕ, zero, suc, _+_, _^_, _/_, _%_}
+use lib.Dec.{ltb, eqb}
+use Rattle.events.specs.declared.types.TypeSet.{TypeSet}
+
+-- is t in the set?
+unfoldable pub has : TypeSet → ℕ → Bool
+has s t = ltb t 64 && eqb (s .bits / 2 ^ t % 2) 1
+
+-- the numbers below n of which f holds, as bits
+unfoldable pub bitsBelow : (ℕ → Bool) → ℕ → ℕ
+bitsBelow f zero = 0
+bitsBelow f (suc n) = bitsBelow f n + cond (f n) (2 ^ n) 0
+
+-- the set of the types of which f holds
+unfoldable pub those : (ℕ → Bool) → TypeSet
+those f = record { bits = bitsBelow f 64 }
+
+-- is a type below n in both sets?
+unfoldable pub anyBelow : TypeSet → TypeSet → ℕ → Bool
+anyBelow s u zero = false
+anyBelow s u (suc n) = (has s n && has u n) || anyBelow s u n
+
+-- have two sets a type in common?
+unfoldable pub anyIn : TypeSet → TypeSet → Bool
+anyIn s u = anyBelow s u 64

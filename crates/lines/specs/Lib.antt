@@ -1,0 +1,5 @@
+pub mod Numerals
+pub mod Pieces
+pub mod Refusals
+pub mod Lines
+pub mod Logs
