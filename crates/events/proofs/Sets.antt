@@ -1,7 +1,7 @@
 -- A set of types has just the types that were put in.
 use mathlib.Core.Path.{_≡_, refl, sym, ap, subst, _∙_}
 use mathlib.Core.Logic.{_⊎_, inl, inr}
-use mathlib.Core.Bool.{Bool, true, false, cond, _&&_, _||_}
+use mathlib.Core.Bool.{Bool, true, false, cond, _&&_}
 use Prim.Native.Nat.{ℕ, zero, suc, _+_, _-_, _*_, _/_, _%_, _^_, _<_, _≤_}
 use native.Mathlib.Numerals.{add-one}
 use native.Mathlib.Nat.{two-pow-succ, eq-or-lt-of-le, add-mul-div-right, add-mul-mod-self-right, add-zero, mod-eq-of-lt, mod-one}
@@ -12,7 +12,7 @@ use borrow.Author.Tests.{ltb-true}
 use Rattle.std.proofs.shelf.Bits.{shr-high, mod-pow-add}
 use Rattle.std.proofs.shelf.Tests.{lt-ltb, cases-eq, eq-eqb, ne-eqb}
 use Rattle.events.specs.declared.types.TypeSet.{TypeSet}
-use Rattle.events.specs.Types.{has, bitsBelow, those, anyBelow, anyIn}
+use Rattle.events.specs.Types.{has, bitsBelow, those, common}
 
 pub bits-none : (f : ℕ → Bool) → bitsBelow f 0 ≡ 0
 unfolding bitsBelow
@@ -97,19 +97,26 @@ gathered s (suc n) h =
     let b = one-bit (s .bits / 2 ^ n) (2 ^ n) in
     rw (has-below s n (omega arith), gathered s n (omega arith), ← e) (omega arith)
 
+-- tests that agree below 64 give the same set
+bits-same : (f g : ℕ → Bool) (n : ℕ) → ((t : ℕ) → t < n → f t ≡ g t) → bitsBelow f n ≡ bitsBelow g n
+unfolding bitsBelow
+bits-same f g zero h = refl
+bits-same f g (suc n) h = rw (bits-same f g n (λ t q. h t (omega arith)), h n (omega arith))
+
+abbrev every : TypeSet
+every = record { bits = 18446744073709551615 }
+
+every-is : those (λ t. true) ≡ every
+unfolding those bitsBelow
+every-is = refl
+
+every-has : (t : ℕ) → t < 64 → has every t ≡ true
+every-has t h = ap (λ s. has s t) (sym every-is) ∙ has-those (λ t. true) t ∙ rw (lt-ltb t 64 h)
+
 -- a set is gathered from its answers
-pub those-has : (s : TypeSet) → s .bits < 2 ^ 64 → those (has s) .bits ≡ s .bits
+pub common-every : (s : TypeSet) → s .bits < 2 ^ 64 → common every s ≡ s
 unfolding those
-those-has s h = gathered s 64 (omega arith) ∙ mod-eq-of-lt h
-
-pub any-none : (s u : TypeSet) → anyBelow s u 0 ≡ false
-unfolding anyBelow
-any-none s u = refl
-
-pub any-more : (s u : TypeSet) (n : ℕ) → anyBelow s u (n + 1) ≡ ((has s n && has u n) || anyBelow s u n)
-unfolding anyBelow
-any-more s u n = ap (anyBelow s u) (add-one n)
-
-pub any-all : (s u : TypeSet) → anyIn s u ≡ anyBelow s u 64
-unfolding anyIn
-any-all s u = refl
+common-every s h =
+    let e : bitsBelow (λ t. has every t && has s t) 64 ≡ s .bits =
+    bits-same (λ t. has every t && has s t) (has s) 64 (λ t q. rw (every-has t q)) ∙ gathered s 64 (omega arith) ∙ mod-eq-of-lt h in
+    λ i. record { bits = e i }

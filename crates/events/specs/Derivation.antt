@@ -8,13 +8,13 @@ use Rattle.events.specs.declared.types.TypeSet.{TypeSet}
 use Rattle.events.specs.declared.derived.Entries.{Entries}
 use Rattle.events.specs.declared.derived.Entry.{Entry}
 use Rattle.events.specs.declared.derived.Entry.the-variants.{Absent, AnyOf, NoneOf}
-use Rattle.events.specs.Types.{has, those, anyIn}
+use Rattle.events.specs.Types.{has, those, common, isEmpty}
 
 -- is an event of type t, whose entry this is, where the event below is of the types u?
 abbrev pub derives : TypeSet → ℕ → Entry → Bool
 derives u t Absent = has u t
-derives u t (AnyOf s) = anyIn s u
-derives u t (NoneOf s) = not (anyIn s u)
+derives u t (AnyOf s) = not (isEmpty (common s u))
+derives u t (NoneOf s) = isEmpty (common s u)
 
 -- the entries are for the types 48 to 63
 abbrev pub entryFor : Entries → ℕ → Entry

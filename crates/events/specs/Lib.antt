@@ -1,3 +1,4 @@
 pub mod Types
 pub mod Meanings
 pub mod Derivation
+pub mod Ranges

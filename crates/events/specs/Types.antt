@@ -1,5 +1,5 @@
 -- Sets of types, numbered 0 to 63.
-use mathlib.Core.Bool.{Bool, false, cond, _&&_, _||_}
+use mathlib.Core.Bool.{Bool, cond, _&&_}
 use Prim.Native.Nat.{ℕ, zero, suc, _+_, _^_, _/_, _%_}
 use lib.Dec.{ltb, eqb}
 use Rattle.events.specs.declared.types.TypeSet.{TypeSet}
@@ -17,11 +17,9 @@ bitsBelow f (suc n) = bitsBelow f n + cond (f n) (2 ^ n) 0
 unfoldable pub those : (ℕ → Bool) → TypeSet
 those f = record { bits = bitsBelow f 64 }
 
--- is a type below n in both sets?
-unfoldable pub anyBelow : TypeSet → TypeSet → ℕ → Bool
-anyBelow s u zero = false
-anyBelow s u (suc n) = (has s n && has u n) || anyBelow s u n
+-- the types that two sets have in common
+abbrev pub common : TypeSet → TypeSet → TypeSet
+common s u = those (λ t. has s t && has u t)
 
--- have two sets a type in common?
-unfoldable pub anyIn : TypeSet → TypeSet → Bool
-anyIn s u = anyBelow s u 64
+abbrev pub isEmpty : TypeSet → Bool
+isEmpty s = eqb (s .bits) 0

@@ -1,8 +1,8 @@
 // Types that are derived from those of an event.
 ghost use mathlib.Core.Path.{_≡_};
-ghost use Rattle.events.specs.Types.{anyIn};
 ghost use Rattle.events.specs.Derivation.{derived, entryFor};
 use crate::event::Event;
+use crate::noting::types_among;
 use crate::types::TypeSet;
 
 // The lowest type that an entry can derive.
@@ -51,25 +51,12 @@ pub impl<E: Event> Event for Derived<E> as DerivedEvent {
     fn is_of(&self, ty: u8) -> bool {
         match self.entries.entry_for(ty) {
             Entry::Absent => self.below.is_of(ty),
-            Entry::AnyOf(set) => is_any_of(&self.below, set),
-            Entry::NoneOf(set) => !is_any_of(&self.below, set),
+            Entry::AnyOf(set) => types_among(&self.below, set).bits != 0,
+            Entry::NoneOf(set) => types_among(&self.below, set).bits == 0,
         }
     }
 
     fn slot(&self, slot: u8) -> Option<u32> {
         self.below.slot(slot)
     }
-}
-
-// Is the event of at least one type of the set? Every type of the set is asked for.
-fn is_any_of<E: Event>(event: &E, set: TypeSet) -> bool
-    ensures { λ r. ⌜ r ≡ anyIn set (meaning (now (event .entry)) .types) ⌝ }
-{
-    let mut found = false;
-    for ty in 0..64u8 {
-        if set.contains(ty) && event.is_of(ty) {
-            found = true;
-        }
-    }
-    found
 }

@@ -1,6 +1,10 @@
+pub mod Back
 pub mod Cuts
+pub mod Exact
 pub mod Known
 pub mod Lengths
 pub mod Numbered
+pub mod Only
+pub mod Spelling
 pub mod Through
 pub mod Values

@@ -4,17 +4,18 @@ ghost use Prim.Native.Nat.{_+_, _^_, _<_};
 ghost use lib.ListN.{length};
 ghost use Rattle.events.specs.Meanings.{single};
 ghost use Rattle.lines.specs.Lines.{lineOf, alone, formOf, numbersOf, faultOf, slotOf, slotPast, follows, putsNumber, puts, through, fieldWords, Fits};
+ghost use Rattle.lines.specs.Text.{Exactly};
 ghost use Rattle.lines.specs.declared.fault.Cause.the-variants.{Bad, TooLarge};
 ghost use Rattle.std.specs.Options.{mapped};
 use crate::digits::is_numeral;
 use crate::digits::value;
-use events::event::Event;
 use crate::fault::Cause;
 use crate::fault::LineFault;
 use crate::fault::LineFromWord;
 use crate::fault::WordFault;
-use events::fields::Fields;
 use crate::pieces::cut;
+use events::event::Event;
+use events::fields::Fields;
 use refusals::Span;
 
 const SPACE: u8 = 32;
@@ -32,7 +33,8 @@ pub struct Line {
 impl Line {
     // Reads words between single spaces: a type, and then at most one each of p, c and s with digits.
     pub fn read(bytes: &[u8]) -> Result<Line, LineFault>
-        ensures { λ r. ⌜ r ≡ alone (now (bytes .entry)) ⌝ }
+        ensures answer { λ r. ⌜ r ≡ alone (now (bytes .entry)) ⌝ }
+        ensures exact { λ r. ⌜ Exactly (now (bytes .entry)) r ⌝ }
     {
         read_at(bytes, 0, 1)
     }

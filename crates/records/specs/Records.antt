@@ -16,10 +16,6 @@ use Rattle.events.specs.declared.fields.Fields.{Fields}
 use Rattle.records.specs.declared.Record.{Record}
 use Rattle.records.specs.declared.RecordFault.{RecordFault}
 
--- a bit of a map, by the power of two that it stands for
-abbrev pub bit : ℕ → ℕ → Bool
-bit map p = eqb (map / p % 2) 1
-
 -- a number of four bytes, the highest first
 abbrev pub joined4 : ℕ → ℕ → ℕ → ℕ → ℕ
 joined4 a b c d = ((a * 256 + b) * 256 + c) * 256 + d
@@ -44,12 +40,12 @@ abbrev pub ended : Fields → List ℕ → Option Fields
 ended f [] = Some f
 ended f (x ∷ xs) = None
 
--- the fields that a map announces: player, card and strokes, in this order
+-- the fields that a map announces by bits 0, 1 and 2: player, card and strokes, in this order
 abbrev pub announced : ℕ → ℕ → List ℕ → Option Fields
 announced map ty xs =
-    on (bytes4 (bit map 1) xs) (λ p.
-    on (bytes4 (bit map 2) (p .1)) (λ c.
-    on (bytes1 (bit map 4) (c .1)) (λ s.
+    on (bytes4 (eqb (map % 2) 1) xs) (λ p.
+    on (bytes4 (eqb (map / 2 % 2) 1) (p .1)) (λ c.
+    on (bytes1 (eqb (map / 4 % 2) 1) (c .1)) (λ s.
     ended (record { ty = ty; player = p .0; card = c .0; strokes = s .0 }) (s .1))))
 
 abbrev pub fieldsOf : List ℕ → Option Fields

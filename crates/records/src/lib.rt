@@ -1,7 +1,8 @@
 // Events as binary records.
 ghost use mathlib.Core.Path.{_≡_};
 ghost use Rattle.events.specs.Meanings.{single};
-ghost use Rattle.records.specs.Records.{recordOf, recordRefusal, bytes1, bytes4, joined4};
+ghost use Rattle.records.specs.Encoding.{Exactly};
+ghost use Rattle.records.specs.Records.{recordOf, recordRefusal, fieldsOf, announced, bytes1, bytes4, joined4};
 ghost use Rattle.std.specs.Options.{Cases as BySome};
 ghost use Rattle.std.specs.declared.option.Option.the-variants.{Some, None};
 use events::event::Event;
@@ -10,6 +11,11 @@ use refusals::Layer;
 use refusals::Place;
 use refusals::Refusal;
 use refusals::Span;
+
+// A map announces the player by bit 0, the card by bit 1 and the strokes by bit 2.
+const MOST_MAP: u8 = 7;
+
+const MOST_TYPE: u8 = 47;
 
 // An event that came as a record.
 #[derive(Clone, Copy)]
@@ -38,41 +44,17 @@ impl RecordFault {
 impl Record {
     // Reads a map byte, a type byte, and the fields that the map announces.
     pub fn read(bytes: &[u8]) -> Result<Record, RecordFault>
-        ensures { λ r. ⌜ r ≡ recordOf (now (bytes .entry)) ⌝ }
+        ensures answer { λ r. ⌜ r ≡ recordOf (now (bytes .entry)) ⌝ }
+        ensures exact { λ r. ⌜ Exactly (now (bytes .entry)) r ⌝ }
     {
-        let span = Span {
-            at: 0,
-            len: bytes.len(),
+        let Some(fields) = fields_of(bytes) else {
+            let span = Span {
+                at: 0,
+                len: bytes.len(),
+            };
+            return Err(RecordFault { span });
         };
-        let fault = RecordFault { span };
-        let [map, kind, rest @ ..] = bytes else {
-            return Err(fault);
-        };
-        if *map > 7 || *kind > 47 {
-            return Err(fault);
-        }
-        let Some((player, rest)) = four_bytes(*map % 2 == 1, rest) else {
-            return Err(fault);
-        };
-        let Some((card, rest)) = four_bytes(*map / 2 % 2 == 1, rest) else {
-            return Err(fault);
-        };
-        let Some((strokes, rest)) = one_byte(*map / 4 % 2 == 1, rest) else {
-            return Err(fault);
-        };
-        match rest {
-            [] => {
-                let ty = *kind;
-                let fields = Fields {
-                    ty,
-                    player,
-                    card,
-                    strokes,
-                };
-                Ok(Record { fields })
-            }
-            _ => Err(fault),
-        }
+        Ok(Record { fields })
     }
 }
 
@@ -85,6 +67,41 @@ pub impl Event for Record as RecordEvent {
 
     fn slot(&self, slot: u8) -> Option<u32> {
         self.fields.slot(slot)
+    }
+}
+
+fn fields_of(bytes: &[u8]) -> Option<Fields>
+    ensures { λ r. ⌜ r ≡ fieldsOf (now (bytes .entry)) ⌝ }
+{
+    let [map, kind, rest @ ..] = bytes else {
+        return None;
+    };
+    if *map > MOST_MAP || *kind > MOST_TYPE {
+        return None;
+    }
+    announced_fields(*map, *kind, rest)
+}
+
+fn announced_fields(map: u8, ty: u8, bytes: &[u8]) -> Option<Fields>
+    ensures { λ r. ⌜ r ≡ announced map ty (now (bytes .entry)) ⌝ }
+{
+    let Some((player, rest)) = four_bytes(map % 2 == 1, bytes) else {
+        return None;
+    };
+    let Some((card, rest)) = four_bytes(map / 2 % 2 == 1, rest) else {
+        return None;
+    };
+    let Some((strokes, rest)) = one_byte(map / 4 % 2 == 1, rest) else {
+        return None;
+    };
+    match rest {
+        [] => Some(Fields {
+            ty,
+            player,
+            card,
+            strokes,
+        }),
+        _ => None,
     }
 }
 

@@ -9,7 +9,7 @@ use std::fmt;
 pub mod text;
 
 // The part of the library that found a fault.
-#[derive(Clone, Copy)]
+#[derive(Clone, Copy, Debug, PartialEq, Eq)]
 pub enum Layer {
     Record,
     Word,
@@ -36,7 +36,7 @@ pub impl fmt::Display for Layer as LayerDisplay {
 }
 
 // A part of some bytes: where it begins, and how long it is.
-#[derive(Clone, Copy)]
+#[derive(Clone, Copy, Debug, PartialEq, Eq)]
 pub struct Span {
     pub at: usize,
     pub len: usize,
@@ -55,13 +55,13 @@ impl Span {
 }
 
 // Where a fault lies.
-#[derive(Clone, Copy)]
+#[derive(Clone, Copy, Debug, PartialEq, Eq)]
 pub enum Place {
     Bytes(Span),
 }
 
 // What a refusal answers.
-#[derive(Clone, Copy)]
+#[derive(Clone, Copy, Debug, PartialEq, Eq)]
 pub struct Refusal {
     pub number: u8,
     pub layer: Layer,
