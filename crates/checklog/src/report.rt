@@ -78,3 +78,19 @@ fn place_text(heap: Global, at: usize) -> Result<String, AllocError>
 {
     format!(heap, " at byte {at}\n")
 }
+
+#[cfg(test)]
+mod tests {
+    use super::*;
+    use std::test::*;
+
+    #[test]
+    fn line_that_cannot_be_read(rt: LibcRuntime) -> Result<(), Fail> {
+        let log = b"1 c7\n2 p3 c07\n1 c8\n";
+        let text = report(rt.alloc(), log, &Survey::of(log))?;
+        check_eq(
+            text.as_str(),
+            "lines 1\ntype 1: 1\nline 2: refused 12 word: bad or missing word \"c07\" at byte 10\n",
+        )
+    }
+}

@@ -32,8 +32,10 @@ mod tests {
 
     // Number, place and length of a refusal.
     fn place(refusal: Refusal) -> (u8, usize, usize) {
-        let Place::Bytes(span) = refusal.place;
-        (refusal.number, span.at, span.len)
+        match refusal.place {
+            Place::Bytes(span) => (refusal.number, span.at, span.len),
+            _ => (refusal.number, usize::MAX, usize::MAX),
+        }
     }
 
     fn line(text: &[u8]) -> Result<Answers, (u8, usize, usize)> {

@@ -11,6 +11,8 @@ pub mod text;
 // The part of the library that found a fault.
 #[derive(Clone, Copy, Debug, PartialEq, Eq)]
 pub enum Layer {
+    Reading,
+    Checking,
     Record,
     Word,
 }
@@ -21,6 +23,8 @@ impl Layer {
         ensures { λ r. ⌜ now r ≡ nameOf self ⌝ }
     {
         match self {
+            Layer::Reading => "reading",
+            Layer::Checking => "checking",
             Layer::Record => "record",
             Layer::Word => "word",
         }
@@ -54,10 +58,12 @@ impl Span {
     }
 }
 
-// Where a fault lies.
+// Where a fault lies: in no place, in a part of the bytes, or in a node.
 #[derive(Clone, Copy, Debug, PartialEq, Eq)]
 pub enum Place {
+    Nowhere,
     Bytes(Span),
+    Node(u8),
 }
 
 // What a refusal answers.

@@ -1,0 +1,10 @@
+pub mod Sets
+pub mod Paths
+pub mod Links
+pub mod Weights
+pub mod Nodes
+pub mod Answer
+pub mod FreeSets
+pub mod Made
+pub mod Meaning
+pub mod Refusals

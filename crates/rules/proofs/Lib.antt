@@ -1,0 +1,5 @@
+mod Reading
+mod Back
+mod Only
+mod Law
+mod Sizes
