@@ -12,6 +12,7 @@ use Rattle.std.specs.declared.result.Result.{Result}
 use Rattle.std.specs.declared.result.Result.the-variants.{Ok, Err}
 use Rattle.std.proofs.shelf.Tests.{le-leb, leb-true, eq-eqb, ne-eqb, and-parts}
 use Rattle.refusals.specs.Options.{on}
+use Rattle.refusals.proofs.Octets.{Octets, octets}
 use Rattle.events.specs.declared.fields.Fields.{Fields}
 use Rattle.events.specs.Ranges.{Below, InRange}
 use Rattle.records.specs.declared.Record.{Record}
@@ -64,15 +65,6 @@ fields-back f h =
       b .1 .1 .1,
       one-back (f .strokes) [],
     )
-
--- Bytes are below 256.
-abbrev Octets : List ℕ → Type 0
-Octets [] = Unit {0}
-Octets (x ∷ xs) = (x < 256) × Octets xs
-
-pub octets : (xs : List ℕ) → ((i : ℕ) → getD xs i 0 < 256) → Octets xs
-octets [] h = tt
-octets (x ∷ xs) h = (h 0, octets xs (λ i. h (suc i)))
 
 abbrev number : Bool → ℕ
 number true = 1

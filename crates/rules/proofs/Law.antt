@@ -2,19 +2,20 @@
 use mathlib.Core.Path.{_≡_, refl, sym, ap, _∙_}
 use mathlib.Core.Bool.{Bool, true, false, cond}
 use mathlib.Core.List.{List, _++_, map}
-use Prim.Native.Nat.{ℕ, _≤_}
+use Prim.Native.Nat.{ℕ, _<_, _≤_}
 use native.Mathlib.Omega.{arith}
 use lib.Dec.{leb}
-use lib.ListN.{length, take, drop, length-map}
+use lib.ListN.{length, getD, take, drop, length-map}
 use Rattle.std.specs.declared.result.Result.{Result}
 use Rattle.std.specs.declared.result.Result.the-variants.{Ok, Err}
 use Rattle.std.proofs.shelf.Tests.{le-leb}
 use Rattle.std.proofs.shelf.Lists.{take-at}
+use Rattle.refusals.proofs.Octets.{Octets, octets}
 use Rattle.rules.specs.declared.record.NodeRecord.{NodeRecord}
 use Rattle.rules.specs.declared.fault.ReadFault.{ReadFault}
 use Rattle.rules.specs.declared.fault.ReadFault.the-variants.{ListTooShort}
 use Rattle.rules.specs.Bytes.{ruleOf, answered, written}
-use Rattle.rules.specs.Writing.{cleaned, encodedRule, Octets, Laid, Decodes}
+use Rattle.rules.specs.Writing.{cleaned, encodedRule, Laid, Decodes}
 use Rattle.rules.proofs.Back.{reads-back}
 use Rattle.rules.proofs.Only.{reads-only}
 
@@ -36,8 +37,8 @@ module _ (xs : List ℕ) (old : List NodeRecord) where
       go false k = let z : _≡_ {A = ℕ} 0 1 = cc in absurd (omega arith)
 
 pub decodes : (xs : List ℕ) (old : List NodeRecord) (r : Result ℕ ReadFault) (new : List NodeRecord)
-    → r ≡ answered (ruleOf xs) old → new ≡ written (ruleOf xs) old → Decodes xs old r new
-decodes xs old r new a w = record {
+    → ((i : ℕ) → getD xs i 0 < 256) → r ≡ answered (ruleOf xs) old → new ≡ written (ruleOf xs) old → Decodes xs old r new
+decodes xs old r new o a w = record {
   back = λ rs h e l. let q = read-back xs old rs h e l in (a ∙ q .0, w ∙ q .1);
-  only = λ n k t. rw w (read-only xs old (ruleOf xs) refl n (sym a ∙ k) t);
+  only = λ n k. rw w (read-only xs old (ruleOf xs) refl n (sym a ∙ k) (octets xs o));
 }

@@ -15,9 +15,10 @@ use Rattle.rules.specs.declared.record.NodeRecord.{NodeRecord}
 use Rattle.rules.specs.declared.fault.ReadFault.{ReadFault}
 use Rattle.rules.specs.declared.fault.ReadFault.the-variants.{BadCount}
 use Rattle.refusals.specs.Options.{on}
+use Rattle.refusals.proofs.Octets.{Octets}
 use Rattle.rules.specs.Layout.{isSet, decoded}
 use Rattle.rules.specs.Bytes.{byteOf, fieldOf, recordOf, number4, nodeOf, nodesOf, before, then, ruleOf, laid}
-use Rattle.rules.specs.Writing.{byteIf, fieldIf, encoded, encodedAll, Octets, encodedRule}
+use Rattle.rules.specs.Writing.{byteIf, fieldIf, encoded, encodedAll, encodedRule}
 use Rattle.rules.proofs.Reading.{nodes-length, nodes-suc, nodes-zero}
 
 on-some : {X Y : Type 0} (o : Option X) (f : X → Option Y) (y : Y) → on o f ≡ Some y → (x : X) × (o ≡ Some x) × (f x ≡ Some y)

@@ -57,10 +57,6 @@ unfoldable pub allLaid : ℕ → List NodeRecord → Bool
 allLaid n [] = true
 allLaid n (r ∷ rs) = isSome (decoded n (cleaned r)) && allLaid n rs
 
-abbrev pub Octets : List ℕ → Type 0
-Octets [] = Unit {0}
-Octets (x ∷ xs) = (x < 256) × Octets xs
-
 -- the bytes of a rule: the count, then the records
 abbrev pub encodedRule : List NodeRecord → List ℕ
 encodedRule rs = length rs ∷ encodedAll rs
@@ -74,4 +70,4 @@ pub record Laid (rs : List NodeRecord) : Type 0 where
 -- What reading does with bytes xs and a list that held old: what is written well is read back, and nothing else is read.
 pub record Decodes (xs : List ℕ) (old : List NodeRecord) (r : Result ℕ ReadFault) (new : List NodeRecord) : Type 0 where
   pub back : (rs : List NodeRecord) → Laid rs → xs ≡ encodedRule rs → length rs ≤ length old → (r ≡ Ok (length rs)) × (new ≡ map cleaned rs ++ drop (length rs) old)
-  pub only : (n : ℕ) → r ≡ Ok n → Octets xs → xs ≡ encodedRule (take n new)
+  pub only : (n : ℕ) → r ≡ Ok n → xs ≡ encodedRule (take n new)

@@ -1,4 +1,5 @@
 use borrow.Author.Needs.{needs}
+use native.Mathlib.Omega.{arith}
 use mathlib.Core.Path.{_≡_}
 use Prim.Native.Nat.{_≤_}
 use lib.ListN.{length, getD}
@@ -17,7 +18,7 @@ returns-in-Err c =
     let v = rw (take-rest (c .args .bytes .now) 1) at (c .in-Err .ensures tt) in
     let a : Err (c .in-Err .fault) ≡ answered (ruleOf (c .args .bytes .now)) (c .args .list .now) = rw e (err-answered _ _ _ v) in
     let w : c .args .list .now ≡ written (ruleOf (c .args .bytes .now)) (c .args .list .now) = rw e (err-written _ _ _ v) in
-    record { answer = a; list = w; law = decodes _ _ _ _ a w }
+    record { answer = a; list = w; law = decodes _ _ _ _ (λ i. omega (arith, c .typed .bytes i)) a w }
 
 pub returns-then-list-count : need.returns-then-list-count
 returns-then-list-count c =
@@ -27,7 +28,7 @@ returns-then-list-count c =
     let s = short-list _ _ _ (c .args .list .now) v (c .if-list-count .taken) in
     let a : Err ListTooShort ≡ answered (ruleOf (c .args .bytes .now)) (c .args .list .now) = rw e (s .0) in
     let w : c .args .list .now ≡ written (ruleOf (c .args .bytes .now)) (c .args .list .now) = rw e (s .1) in
-    record { answer = a; list = w; law = decodes _ _ _ _ a w }
+    record { answer = a; list = w; law = decodes _ _ _ _ (λ i. omega (arith, c .typed .bytes i)) a w }
 
 pub returns : need.returns
 returns c =
@@ -37,4 +38,4 @@ returns c =
     let f = rw (take-rest (c .args .bytes .now) 1) at (c .fill .ensures) in
     let a : Ok (getD (c .args .bytes .now) 0 0) ≡ answered (ruleOf (c .args .bytes .now)) (c .args .list .now) = rw e (full-list _ _ _ (c .args .list .now) v (c .if-list-count .left)) in
     let w : c .fill .last .list ≡ written (ruleOf (c .args .bytes .now)) (c .args .list .now) = rw e f in
-    record { answer = a; list = w; law = decodes _ _ _ _ a w }
+    record { answer = a; list = w; law = decodes _ _ _ _ (λ i. omega (arith, c .typed .bytes i)) a w }
