@@ -12,6 +12,6 @@ mod Frees
 mod Emptied
 mod Assessing
 mod Checking
-mod Meant
+pub mod Meant
 mod Descends
 mod Written

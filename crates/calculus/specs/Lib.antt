@@ -1,0 +1,15 @@
+pub mod Vocabulary
+pub mod Numbers
+pub mod Matching
+pub mod Graphs
+pub mod Reading
+pub mod States
+pub mod Steps
+pub mod Lists
+pub mod Visited
+pub mod Equality
+pub mod Outcomes
+pub mod Fullness
+pub mod Runs
+pub mod Theorems
+pub mod Plays
