@@ -7,14 +7,15 @@ use Prim.Native.Nat.{ℕ, zero, suc, _+_, _<_, _≤_}
 use native.Mathlib.Omega.{arith}
 use lib.Dec.{eqb, ltb}
 use lib.ListN.{length, getD}
-use Rattle.std.proofs.shelf.Tests.{and-parts, or-cases, or-left, or-right, eqb-true, eq-eqb, ltb-true, cases-lt}
+use Rattle.std.proofs.shelf.Tests.{and-parts, or-cases, or-left, or-right, eqb-true, eq-eqb, ltb-true, cases-lt, le-ltb}
 use Rattle.std.proofs.shelf.Lists.{getD-past}
 use Rattle.checking.specs.declared.links.Links.the-variants.{Unguarded, Free}
 use Rattle.checking.specs.Links.{node as nodeIn, targets, among, links, names, slotNames}
 use Rattle.checking.specs.FreeSets.{implies}
 use Rattle.checking.specs.Paths.{Path, one, more}
 use Rattle.checking.specs.Weights.{Weigh, none, some}
-use Rattle.checking.specs.Meaning.{FreeIn as Named, here as named-here, up as named-up, Never, Looping, Over}
+use Rattle.checking.specs.Answer.{weights, heavy}
+use Rattle.checking.specs.Meaning.{FreeIn as Named, here as named-here, up as named-up, Never, Looping}
 use Rattle.calculus.specs.Vocabulary.{Any, Binder, Constant, Empty, Filter, Node, Pair, Prefix, same, Slot, V0, V1, V2, V3, Var, Variable}
 use Rattle.calculus.specs.Graphs.{Graph, Names, WellFormed, WellFormedAt, Within}
 use Rattle.calculus.proofs.Substitutions.{same-case}
@@ -202,9 +203,15 @@ module _ (G : Graph) (W : WellFormed G) (ws : List ℕ) (weight : (n : ℕ) → 
   weighs-table n = weigh-all (suc (G .rank n)) (weigh-below (suc (G .rank n))) (n ∷ [])
       (λ c i. elim (or-cases (eqb n c) false i) [ inl x ↦ subst (λ (z : ℕ). G .rank z < suc (G .rank n)) (eqb-true n c x) (omega arith) | inr x ↦ absurd (false≢true x) ])
 
-  weigh-is : {cs : List ℕ} {x : ℕ} → Weigh (G .node) cs x → x ≡ total ws cs
-  weigh-is none = refl
-  weigh-is (some {n = n} {x = x} {y = y} p q) = let a = weigh-is p in let b = weigh-is q in let c = weight n in omega arith
+  weights-most : (d : ℕ) (cs : List ℕ) → weights (G .node) d cs ≤ total ws cs
+  unfolding weights
+  weights-most zero cs = omega arith
+  weights-most (suc d) [] = omega arith
+  weights-most (suc d) (n ∷ ns) =
+      let a = weights-most d (targets Unguarded (G .node n)) in let b = weights-most (suc d) ns in let c = weight n in omega arith
 
-  pub light : ((n : ℕ) → getD ws n 1 ≤ 1000) → Never (Over (G .node))
-  light h n o = let a = weigh-is (o .1 .0) in let b = o .1 .1 in let c = h n in omega arith
+  pub light : ((n : ℕ) → getD ws n 1 ≤ 1000) → (n : ℕ) → heavy (G .node) n ≡ false
+  unfolding heavy
+  light h n =
+      let a = weights-most 128 (targets Unguarded (G .node n)) in let b = weight n in let c = h n in
+      le-ltb 1000 (suc (weights (G .node) 128 (targets Unguarded (G .node n)))) (omega arith)

@@ -14,7 +14,7 @@ use Rattle.calculus.specs.Visited.{in-binder, in-filter, in-pair-left, in-pair
 use Rattle.calculus.specs.Outcomes.{outcomes}
 use Rattle.calculus.specs.Fullness.{full, nodeFull, overflowing}
 use Rattle.calculus.specs.Theorems.{Opens}
-use Rattle.calculus.proofs.Local.{fine}
+use Rattle.calculus.proofs.Local.{ends-binder, ends-filter, ends-pair, fine}
 use Rattle.calculus.proofs.Listing.{outcomes-binder, outcomes-filter, outcomes-pair}
 
 -- a visited part has a list of outcomes that overflows
@@ -161,6 +161,6 @@ module _ (G : Graph) (W : WellFormed G) (e : Meaning) where
       go : (nd : Node) → G .node n ≡ nd → Opens G e n σ nd
       go Empty q = tt
       go (Prefix p t) q = tt
-      go (Pair o a b) q = (outcomes-pair G W e n σ o a b q, full-pair n σ o a b q)
-      go (Binder v c) q = (outcomes-binder G W e n σ v c q, full-binder n σ v c q)
-      go (Filter p c) q = (outcomes-filter G W e n σ p c q, full-filter n σ p c q)
+      go (Pair o a b) q = record { ends = ends-pair G W n σ o a b q; listed = outcomes-pair G W e n σ o a b q; full = full-pair n σ o a b q }
+      go (Binder v c) q = record { ends = ends-binder G W n σ v c q; listed = outcomes-binder G W e n σ v c q; full = full-binder n σ v c q }
+      go (Filter p c) q = record { ends = ends-filter G W n σ p c q; listed = outcomes-filter G W e n σ p c q; full = full-filter n σ p c q }

@@ -19,6 +19,7 @@ use Rattle.calculus.specs.States.{State}
 use Rattle.calculus.specs.Steps.{start}
 use Rattle.calculus.specs.Runs.{anyEnds, begin, Broken, MayEnd, Open, Run, run, verdict}
 use Rattle.calculus.specs.Theorems.{Follows, Greatest}
+use Rattle.calculus.proofs.Substitutions.{not-so}
 use Rattle.calculus.proofs.Running.{ends-in, ends-whole, final, run-shown, run-states, run-taken, start-closed, start-in, start-out, taken-is, taken-most, takes, takes-all, takes-le, whole-ends}
 
 -- the verdict, by the counts and the held states
@@ -47,10 +48,6 @@ is-open G M = (go (eqb (M .shown) (M .taken)) (anyEnds G (M .states)) refl refl,
     go true true p q e = absurd (let z : _≡_ {A = ℕ} 0 1 = cc e in omega arith)
     go true false p q e = (eqb-true (M .shown) (M .taken) p, q)
     go false b p q e = absurd (let z : _≡_ {A = ℕ} 0 1 = cc e in omega arith)
-
-not-true : (b : Bool) → (b ≡ true → ⊥) → b ≡ false
-not-true true h = absurd (h refl)
-not-true false h = refl
 
 module _ (G : Graph) (W : WellFormed G) (Z : ClosedAtStart G) (ρ : Choice) (es : List Meaning) (P : AllProper es) where
   abbrev M : Run
@@ -111,6 +108,6 @@ module _ (G : Graph) (W : WellFormed G) (Z : ClosedAtStart G) (ρ : Choice) (es 
     may-end = ((λ q. some-ends .0 (is-mayend G M .0 q .1)), λ d. let e = some-ends .1 d in is-mayend G M .1 (ends-taken e, e));
     goes-on = (
       (λ q. let x = is-open G M .0 q in (all-taken .0 (sym (x .0)), λ d. true≢false (sym (some-ends .1 d) ∙ x .1))),
-      λ x. is-open G M .1 (sym (all-taken .1 (x .0)), not-true (anyEnds G (M .states)) (λ q. x .1 (some-ends .0 q))),
+      λ x. is-open G M .1 (sym (all-taken .1 (x .0)), not-so (anyEnds G (M .states)) (λ q. x .1 (some-ends .0 q))),
     );
   }

@@ -15,6 +15,7 @@ pub mod Running
 pub mod Following
 pub mod Reaching
 pub mod Certificates
+pub mod Answering
 pub mod Played
 pub mod PlayRules
 pub mod Table

@@ -1,15 +1,16 @@
 -- The reading of a node: it depends on the node's free variables alone, and is taken apart and put together by the node's kind.
-use mathlib.Core.Path.{_≡_, refl, _∙_, ap, subst}
+use mathlib.Core.Path.{_≡_, refl, _∙_, ap, subst, ap₂}
 use mathlib.Core.Logic.{_⊎_, inl, inr}
 use mathlib.Core.Bool.{Bool, true, false}
 use mathlib.Core.List.{List, [], _∷_}
-use Prim.Native.Nat.{ℕ}
-use Rattle.calculus.specs.Vocabulary.{And, Any, Binder, Concat, Constant, Empty, Filter, Meaning, Node, Op, Option, Or, Pair, Pattern, Prefix, same, Shuffle, Slot, Some, Var, Variable}
-use Rattle.calculus.specs.Numbers.{Choice, update}
+use Prim.Native.Nat.{ℕ, zero, suc, _<_}
+use native.Mathlib.Omega.{arith}
+use Rattle.calculus.specs.Vocabulary.{And, Any, Binder, Concat, Constant, Empty, Filter, Meaning, Node, Op, Option, Or, Pair, Pattern, Prefix, same, Shuffle, Slot, Some, Substitution, Var, Variable}
+use Rattle.calculus.specs.Numbers.{Choice, update, without}
 use Rattle.calculus.specs.Matching.{Fits, Matches, Narrow, passes, select}
 use Rattle.calculus.specs.Graphs.{Graph, Names, NamesWithin, WellFormed, WellFormedAt}
 use Rattle.calculus.specs.Reading.{beginning, begun, by-both, by-left, by-right, cut-in-two, ended, filtered, first-only, for-some, Mode, next, Permits, shuffled, whole}
-use Rattle.calculus.specs.States.{Combined, Language}
+use Rattle.calculus.specs.States.{binder, child, Combined, Language, leaf, mayEnd, nodeEnds, pair, pairEnds}
 use Rattle.calculus.proofs.Substitutions.{same-case}
 
 abbrev pub AgreeOn : (Var → Bool) → Choice → Choice → Type 0
@@ -100,3 +101,37 @@ module _ (G : Graph) (W : WellFormed G) where
       update-agree w f (inl s) = rw (s .0)
       update-agree w f (inr s) = rw s (h w (fine n q .1 w f s))
   local n τ q h (filtered {c = c} d) = filtered (local c τ refl (λ v f. h v (fine n q .1 v f)) d)
+
+  -- a bound above the rank changes nothing in whether a node may end
+  ends-stable : (f g n : ℕ) (nd : Node) → G .rank n < f → G .rank n < g → G .node n ≡ nd → nodeEnds G f nd ≡ nodeEnds G g nd
+  ends-stable zero g n nd h k q = absurd (omega arith)
+  ends-stable (suc f) zero n nd h k q = absurd (omega arith)
+  ends-stable (suc f) (suc g) n Empty h k q = refl
+  ends-stable (suc f) (suc g) n (Prefix p t) h k q = refl
+  ends-stable (suc f) (suc g) n (Pair o a b) h k q =
+      let F : WellFormedAt G n (Pair o a b) = fine n q in
+      ap₂ (pairEnds o)
+      (ends-stable f g a (G .node a) (omega (arith, F .0)) (omega (arith, F .0)) refl)
+      (ends-stable f g b (G .node b) (omega (arith, F .1)) (omega (arith, F .1)) refl)
+  ends-stable (suc f) (suc g) n (Binder v c) h k q =
+      let F : WellFormedAt G n (Binder v c) = fine n q in
+      ends-stable f g c (G .node c) (omega (arith, F .0)) (omega (arith, F .0)) refl
+  ends-stable (suc f) (suc g) n (Filter p c) h k q =
+      let F : WellFormedAt G n (Filter p c) = fine n q in
+      ends-stable f g c (G .node c) (omega (arith, F .0)) (omega (arith, F .0)) refl
+
+  ends-child : (n a : ℕ) → G .rank a < G .rank n → nodeEnds G (G .rank n) (G .node a) ≡ nodeEnds G (suc (G .rank a)) (G .node a)
+  ends-child n a h = ends-stable (G .rank n) (suc (G .rank a)) a (G .node a) h (omega arith) refl
+
+  pub ends-pair : (n : ℕ) (σ : Substitution) (o : Op) (a b : ℕ) → G .node n ≡ Pair o a b →
+      mayEnd G (leaf n σ) ≡ mayEnd G (pair o (child G a σ) (child G b σ))
+  ends-pair n σ o a b q =
+      ap (nodeEnds G (suc (G .rank n))) q ∙ ap₂ (pairEnds o) (ends-child n a (fine n q .0)) (ends-child n b (fine n q .1))
+
+  pub ends-binder : (n : ℕ) (σ : Substitution) (v : Var) (c : ℕ) → G .node n ≡ Binder v c →
+      mayEnd G (leaf n σ) ≡ mayEnd G (binder v (child G c (without v σ)))
+  ends-binder n σ v c q = ap (nodeEnds G (suc (G .rank n))) q ∙ ends-child n c (fine n q .0)
+
+  pub ends-filter : (n : ℕ) (σ : Substitution) (p : Pattern) (c : ℕ) → G .node n ≡ Filter p c →
+      mayEnd G (leaf n σ) ≡ mayEnd G (child G c σ)
+  ends-filter n σ p c q = ap (nodeEnds G (suc (G .rank n))) q ∙ ends-child n c (fine n q .0)

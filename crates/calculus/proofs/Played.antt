@@ -1,5 +1,5 @@
 -- A play of nodes with a certificate: the run of the certified graph says what the reading and every checked rule of these nodes say.
-use mathlib.Core.Path.{_≡_, refl, sym, _∙_, ap, subst, fun-ext}
+use mathlib.Core.Path.{_≡_, refl, sym, _∙_, subst, fun-ext}
 use mathlib.Core.Logic.{inl, inr}
 use mathlib.Core.Bool.{true, true≢false, Bool, _&&_}
 use mathlib.Core.List.{List, [], _∷_, map}
@@ -8,18 +8,18 @@ use native.Mathlib.Omega.{arith}
 use lib.Dec.{eqb, leb, lit≤, ltb}
 use lib.ListN.{length, getD}
 use Rattle.std.proofs.shelf.Tests.{eqb-true, leb-true, cases-lt, and-parts, ltb-true}
-use Rattle.std.specs.declared.result.Result.the-variants.{Ok}
+use Rattle.std.specs.declared.result.Result.the-variants.{Ok, Err}
+use Rattle.checking.specs.declared.fault.CheckFault.the-variants.{TooHeavy}
 use Rattle.std.proofs.shelf.Lists.{getD-past}
 use Rattle.rules.specs.declared.record.NodeRecord.{NodeRecord}
 use Rattle.rules.specs.Layout.{blank, decoded}
 use Rattle.checking.specs.declared.links.Links.the-variants.{Unguarded}
 use Rattle.checking.specs.Links.{node as nodeIn, targets}
 use Rattle.checking.specs.Weights.{Weigh}
-use Rattle.checking.specs.Nodes.{found, nodeAt, orEmpty}
-use Rattle.checking.specs.Answer.{answerOf}
+use Rattle.checking.specs.Nodes.{found, nodeAt}
+use Rattle.checking.specs.Answer.{answerOf, heavy}
 use Rattle.checking.specs.Made.{Made}
-use Rattle.checking.specs.Meaning.{FreeIn as Named, Counted, Broken as Misplaced, Never, Looping, Over, fine as says-fine}
-use Rattle.checking.proofs.Meant.{said}
+use Rattle.checking.specs.Meaning.{Counted}
 use Rattle.calculus.specs.Vocabulary.{Empty, Meaning, Node, None, Option, Rule, Some}
 use Rattle.calculus.specs.Numbers.{Choice}
 use Rattle.calculus.specs.Matching.{AllProper, NarrowSlot}
@@ -27,17 +27,17 @@ use Rattle.calculus.specs.Graphs.{ClosedAtStart, Graph, graphOf, WellFormed}
 use Rattle.calculus.specs.Runs.{begin, Broken, MayEnd, Open, run, Verdict, verdict}
 use Rattle.calculus.specs.Theorems.{Follows, Greatest}
 use Rattle.calculus.specs.Plays.{Comes, Holds, play, Reads, recordOf}
-use Rattle.calculus.proofs.Substitutions.{none-some}
 use Rattle.calculus.proofs.Checked.{closed-at-start, well-formed}
 use Rattle.calculus.proofs.Following.{follows}
 use Rattle.calculus.proofs.Certificates.{all-at, all-below, Certificate, certified, certified-well, fits, light, loopless, named-free, total, weighs-table}
+use Rattle.calculus.proofs.Answering.{answers-fine, answers-heavy, nodes-are}
 
 -- each node's record stands for it
 abbrev pub Decode : ℕ → List Node → Type 0
 Decode m [] = Unit {0}
 Decode m (n ∷ ns) = (decoded m (recordOf n) ≡ Some n) × Decode m ns
 
-decode-at : (m : ℕ) (ns : List Node) → Decode m ns → (k : ℕ) → decoded m (getD (map recordOf ns) k blank) ≡ Some (nodeIn ns k)
+pub decode-at : (m : ℕ) (ns : List Node) → Decode m ns → (k : ℕ) → decoded m (getD (map recordOf ns) k blank) ≡ Some (nodeIn ns k)
 decode-at m [] d k = refl
 decode-at m (n ∷ ns) d zero = d .0
 decode-at m (n ∷ ns) d (suc k) = decode-at m ns (d .1) k
@@ -88,17 +88,6 @@ pub record Certifies (ns : List Node) (c : Certificate) : Type 0 where
   pub weighed : all-below (λ k. eqb (suc (total (c .weights) (targets Unguarded (nodeIn ns k)))) (getD (c .weights) k 1)) (length ns) ≡ true
   pub table : length (c .weights) ≡ length ns
 
--- the nodes that the records stand for
-module _ (ns : List Node) (D : Decode (length (map recordOf ns)) ns) where
-  found-at : (k : ℕ) → found (map recordOf ns) k ≡ Some (nodeIn ns k)
-  found-at k = decode-at (length (map recordOf ns)) ns D k
-
-  nodes-are : nodeAt (map recordOf ns) ≡ nodeIn ns
-  nodes-are = fun-ext (λ k. ap orEmpty (found-at k))
-
-  pub placed : Never (Misplaced (map recordOf ns))
-  placed k q = none-some (nodeIn ns k) (sym q ∙ found-at k)
-
 module _ (ns : List Node) (c : Certificate) (E : Certifies ns c) where
   abbrev rs : List NodeRecord
   rs = map recordOf ns
@@ -106,8 +95,11 @@ module _ (ns : List Node) (c : Certificate) (E : Certifies ns c) where
   abbrev T : Graph
   T = certified ns c
 
+  found-at : (k : ℕ) → found rs k ≡ Some (nodeIn ns k)
+  found-at k = decode-at (length rs) ns (E .decode) k
+
   are : nodeAt rs ≡ nodeIn ns
-  are = nodes-are ns (E .decode)
+  are = nodes-are rs (nodeIn ns) (E .counted) found-at
 
   well : WellFormed T
   well = certified-well ns c (E .fit)
@@ -119,18 +111,14 @@ module _ (ns : List Node) (c : Certificate) (E : Certifies ns c) where
         | inr h ↦ rw (getD-past ns n Empty h, getD-past (c .weights) n 1 (let t = E .table in omega arith))
       ]
 
-  pub no-loop : Never (Looping (nodeAt rs))
-  no-loop = subst (λ (g : ℕ → Node). Never (Looping g)) (sym are) (loopless T well)
-
   pub weighs-so : Weigh (nodeAt rs) (0 ∷ []) (getD (c .weights) 0 1 + 0)
   weighs-so = subst (λ (g : ℕ → Node). Weigh g (0 ∷ []) (getD (c .weights) 0 1 + 0)) (sym are) (weighs-table T well (c .weights) weight 0)
 
   -- where every weight is at most 1000, checking accepts
   pub accepted : all-below (λ k. leb (getD (c .weights) k 1) 1000) (length ns) ≡ true → answerOf rs ≡ Ok tt
   accepted L =
-      said rs (Ok tt) (says-fine (E .counted) (placed ns (E .decode)) no-loop
-      (subst (λ (g : ℕ → Node). Never (Over g)) (sym are) (light T well (c .weights) weight most))
-      (λ v f. true≢false (sym (named-free T well v (subst (λ (g : ℕ → Node). Named g v 0) are f)) ∙ E .closed v)))
+      answers-fine rs (nodeIn ns) (E .counted) found-at (loopless T well) (light T well (c .weights) weight most)
+      (λ v f. true≢false (sym (named-free T well v f) ∙ E .closed v))
     where
       most : (n : ℕ) → getD (c .weights) n 1 ≤ 1000
       most n =
@@ -138,6 +126,10 @@ module _ (ns : List Node) (c : Certificate) (E : Certifies ns c) where
             | inl h ↦ leb-true (getD (c .weights) n 1) 1000 (all-at (λ k. leb (getD (c .weights) k 1) 1000) (length ns) L n h)
             | inr h ↦ rw (getD-past (c .weights) n 1 (let t = E .table in omega arith)) (lit≤ tt)
           ]
+
+  -- where node 0 is too heavy, checking refuses
+  pub refused-heavy : heavy (nodeIn ns) 0 ≡ true → answerOf rs ≡ Err (TooHeavy 0)
+  refused-heavy h = answers-heavy rs (nodeIn ns) (E .counted) found-at (loopless T well) h
 
   module _ (es : List Meaning) (P : AllProper es) (n : ℕ) (w : Verdict) (tk : run T es begin .taken ≡ n) (vd : verdict T (run T es begin) ≡ w) where
     T-follows : (ρ : Choice) → Follows T ρ es (run T es begin)

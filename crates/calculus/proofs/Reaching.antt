@@ -14,7 +14,7 @@ use Rattle.calculus.specs.Steps.{at-start, by-step, Reached, start, Step}
 use Rattle.calculus.specs.Lists.{Distinct, In}
 use Rattle.calculus.specs.Outcomes.{after}
 use Rattle.calculus.specs.Runs.{begin, run}
-use Rattle.calculus.specs.Theorems.{Needless, ReadsReached}
+use Rattle.calculus.specs.Theorems.{Independent, ReadsReached}
 use Rattle.calculus.proofs.Substitutions.{same-case}
 use Rattle.calculus.proofs.Local.{combined-map, local}
 use Rattle.calculus.proofs.Allowing.{begins, may-end-tells}
@@ -60,8 +60,8 @@ module _ (G : Graph) (W : WellFormed G) where
     reached-closed at-start v x = true≢false (sym (x .0) ∙ Z v)
     reached-closed (by-step e p d) v x = reached-closed p v (free-back G W e d v x)
 
-    pub needless : {es : List Meaning} {t : State} → Reached G es t → Needless G t
-    needless {t = t} p ρ τ m es d = allows-local t ρ τ (λ v x. absurd (reached-closed p v x)) m es d
+    pub independent : {es : List Meaning} {t : State} → Reached G es t → Independent G t
+    independent {t = t} p ρ τ m es d = allows-local t ρ τ (λ v x. absurd (reached-closed p v x)) m es d
 
     pub binds-nothing : {es : List Meaning} {t : State} → Reached G es t → (e : Meaning) (s : State) (β : Substitution) → Step G e t s β → β ≡ noNumbers
     binds-nothing p e s β d = unbound β (λ v k q. reached-closed p v (free-bound G W e d v k q))

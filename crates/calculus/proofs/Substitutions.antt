@@ -149,3 +149,7 @@ none-bound v k x = none-some k (rw (lookup-tabulate (λ w. None) v) at x)
 
 pub over-none : (ρ : Choice) → over noNumbers ρ ≡ ρ
 over-none ρ = fun-ext (λ v. rw (lookup-tabulate (λ w. None) v))
+
+pub not-so : (b : Bool) → (b ≡ true → ⊥) → b ≡ false
+not-so true h = absurd (h refl)
+not-so false h = refl

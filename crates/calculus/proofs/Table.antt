@@ -1,32 +1,27 @@
 -- The table of worked plays holds: each row by a certificate for its nodes, and by computation.
 use mathlib.Core.Path.{refl}
 use mathlib.Core.List.{List, [], _∷_, map}
-use native.Mathlib.Omega.{arith}
-use lib.Dec.{lit<, lit≤}
+use lib.Dec.{lit≤}
 use Rattle.std.specs.declared.result.Result.the-variants.{Err}
 use Rattle.checking.specs.declared.fault.CheckFault.the-variants.{Loop, TooHeavy}
-use Rattle.checking.specs.Paths.{one}
-use Rattle.checking.specs.Meaning.{loop as says-loop, too-heavy as says-too-heavy}
-use Rattle.checking.proofs.Meant.{said}
+use Rattle.checking.specs.Links.{node as nodeIn}
+use Rattle.checking.specs.Answer.{heavy, weights}
 use Rattle.events.specs.Types.{has, those, bitsBelow}
 use Rattle.calculus.specs.Vocabulary.{has, Node, Or, Pair}
 use Rattle.calculus.specs.Plays.{_▸_, answers, beside, cardRule, choice, done, eightOrs, filteredRule, Holds, innerBinder, nineOrs, optional, PlaysHold, recordOf, sameNumberTwice, sequence}
-use Rattle.calculus.proofs.Played.{accepted, holds, no-loop, placed, weighs-so}
+use Rattle.calculus.proofs.Answering.{answers-loop}
+use Rattle.calculus.proofs.Played.{accepted, decode-at, holds, refused-heavy, weighs-so}
 use Rattle.calculus.proofs.PlayRules.{besides, besides-fit, cards, cards-fit, choices, choices-fit, eight, eight-fit, filters, filters-fit, inner, inner-fit, nine, nine-fit, options, options-fit, sequences, sequences-fit, twice, twice-fit}
 
 abbrev looped : List Node
 looped = Pair Or 0 0 ∷ []
 
 loop-refused : Holds (answers looped (Err (Loop 0)))
-loop-refused =
-    said (map recordOf looped) (Err (Loop 0))
-    (says-loop (lit≤ tt, lit≤ tt) (placed looped (refl, tt)) (one refl, λ m h p. absurd (omega arith)))
+loop-refused = answers-loop (map recordOf looped) (nodeIn looped) (lit≤ tt, lit≤ tt) (decode-at 1 looped (refl, tt)) refl
 
 nine-refused : Holds (answers nineOrs (Err (TooHeavy 0)))
-nine-refused =
-    said (map recordOf nineOrs) (Err (TooHeavy 0))
-    (says-too-heavy (nine-fit .counted) (placed nineOrs (nine-fit .decode)) (no-loop nineOrs nine nine-fit)
-    ((1023, (weighs-so nineOrs nine nine-fit, lit< tt)), λ m h p. absurd (omega arith)))
+unfolding heavy weights
+nine-refused = refused-heavy nineOrs nine nine-fit refl
 
 pub plays-hold : PlaysHold
 unfolding has those bitsBelow

@@ -22,12 +22,13 @@ use Rattle.calculus.specs.Reading.{whole, beginning, Permits}
 use Rattle.calculus.specs.Runs.{Verdict, Broken, MayEnd, Open, begin, run, verdict}
 use Rattle.calculus.specs.Theorems.{Greatest}
 
--- the field that a slot of a pattern takes in a record, and what it adds to the map, where it takes one
+-- the field that a slot of a pattern takes in a record
 abbrev pub fieldOf : Slot → SlotField
 fieldOf Any = record { tag = 0; number = 0 }
 fieldOf (Constant k) = record { tag = 0; number = k }
 fieldOf (Variable v) = record { tag = 1; number = indexOf v }
 
+-- what a slot that asks for something adds to the map
 abbrev pub bitOf : ℕ → Slot → ℕ
 bitOf b Any = 0
 bitOf b (Constant k) = b
@@ -119,13 +120,15 @@ event t p c = single (record { ty = t; player = p; card = c; strokes = None })
 abbrev pub carded : ℕ → ℕ → Meaning
 carded t c = event t None (Some c)
 
--- a pattern that asks for a type only; with a card; with a player
+-- a pattern that asks for a type only
 abbrev pub typed : ℕ → Pattern
 typed t = record { ty = t; player = Any; card = Any; strokes = Any }
 
+-- a pattern that asks for a type and something of the card
 abbrev pub withCard : ℕ → Slot → Pattern
 withCard t s = record { ty = t; player = Any; card = s; strokes = Any }
 
+-- a pattern that asks for a type and something of the player
 abbrev pub withPlayer : ℕ → Slot → Pattern
 withPlayer t s = record { ty = t; player = s; card = Any; strokes = Any }
 
@@ -168,10 +171,11 @@ innerBinder =
     Binder V0 1 ∷ Pair And 2 4 ∷ Prefix (withCard 1 (Variable V0)) 3 ∷ Prefix (typed 2) 7 ∷
     Binder V0 5 ∷ Prefix (typed 1) 6 ∷ Prefix (withCard 2 (Variable V0)) 7 ∷ Empty ∷ []
 
--- ors over the next node twice, eight and nine of them, over an empty node
+-- eight ors, each over the next node twice, and an empty node
 abbrev pub eightOrs : List Node
 eightOrs = Pair Or 1 1 ∷ Pair Or 2 2 ∷ Pair Or 3 3 ∷ Pair Or 4 4 ∷ Pair Or 5 5 ∷ Pair Or 6 6 ∷ Pair Or 7 7 ∷ Pair Or 8 8 ∷ Empty ∷ []
 
+-- nine such ors
 abbrev pub nineOrs : List Node
 nineOrs = Pair Or 1 1 ∷ Pair Or 2 2 ∷ Pair Or 3 3 ∷ Pair Or 4 4 ∷ Pair Or 5 5 ∷ Pair Or 6 6 ∷ Pair Or 7 7 ∷ Pair Or 8 8 ∷ Pair Or 9 9 ∷ Empty ∷ []
 

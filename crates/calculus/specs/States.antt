@@ -64,14 +64,14 @@ settle G v k (pair o l r) = pair o (settle G v k l) (settle G v k r)
 settle G v k (binder w t) = cond (same v w) (binder w t) (binder w (settle G v k t))
 settle G v k (filter n t) = filter n (settle G v k t)
 
--- a variable is free in a state: in some leaf, not settled, and under no binder state for it
+-- a variable is unsettled in a state: free in some leaf, with no number there, and under no binder state for it
 abbrev pub Unsettled : Graph → Var → State → Type 0
 Unsettled G v (leaf n σ) = (G .free n v ≡ true) × (lookup σ v ≡ None)
 Unsettled G v (pair o l r) = Unsettled G v l ⊎ Unsettled G v r
 Unsettled G v (binder w t) = (same w v ≡ false) × Unsettled G v t
 Unsettled G v (filter n t) = Unsettled G v t
 
--- no variable is free in a state
+-- no variable is unsettled in a state
 abbrev pub Closed : Graph → State → Type 0
 Closed G t = (v : Var) → Unsettled G v t → ⊥
 

@@ -51,13 +51,13 @@ Settling = (r : Rule) (t : State) (v : Var) (k : ℕ) (ρ : Choice) (m : Mode) (
     Allows (graphOf r) (settle (graphOf r) v k t) ρ m es ↔ Allows (graphOf r) t (update ρ v k) m es
 
 -- what a state allows does not depend on chosen numbers
-abbrev pub Needless : Graph → State → Type 0
-Needless G t = (ρ τ : Choice) (m : Mode) (es : List Meaning) → Allows G t ρ m es → Allows G t τ m es
+abbrev pub Independent : Graph → State → Type 0
+Independent G t = (ρ τ : Choice) (m : Mode) (es : List Meaning) → Allows G t ρ m es → Allows G t τ m es
 
 -- states reached from the start need no chosen numbers, and their outcomes bind nothing
 abbrev pub ReachedClosed : Type 0
 ReachedClosed = (r : Rule) (es : List Meaning) (t : State) → Reached (graphOf r) es t →
-    Needless (graphOf r) t × ((e : Meaning) (s : State) (β : Substitution) → Step (graphOf r) e t s β → β ≡ noNumbers)
+    Independent (graphOf r) t × ((e : Meaning) (s : State) (β : Substitution) → Step (graphOf r) e t s β → β ≡ noNumbers)
 
 -- n is the greatest number of events, from the front of es, that node 0 permits as a beginning
 pub record Greatest (g : ℕ → Node) (ρ : Choice) (es : List Meaning) (n : ℕ) : Type 0 where
@@ -85,6 +85,7 @@ pub record ReadsReached (G : Graph) (ρ : Choice) (es : List Meaning) : Type 0 w
   pub begins : ((t : State) × Reached G es t) ↔ Permits (G .node) beginning (G .node 0) ρ es
   pub ends : ((t : State) × Reached G es t × (mayEnd G t ≡ true)) ↔ Permits (G .node) whole (G .node 0) ρ es
 
+-- so it is after any proper events
 abbrev pub StatesRead : Type 0
 StatesRead = (r : Rule) (ρ : Choice) (es : List Meaning) → AllProper es → ReadsReached (graphOf r) ρ es
 
@@ -111,17 +112,26 @@ FullAtState = (r : Rule) (e : Meaning) (t : State) →
 abbrev pub FullTogether : Type 0
 FullTogether = (r : Rule) (e : Meaning) (ts : List State) → (refuses (graphOf r) e ts ≡ true) ↔ Full (graphOf r) e ts
 
--- the mirror at a leaf is the mirror at what the leaf steps as: the bound on the depth, one more than the rank, is never met
+-- two states may end alike, and have the same outcomes and the same answer to full
+pub record Alike (G : Graph) (e : Meaning) (t s : State) : Type 0 where
+  pub ends : mayEnd G t ≡ mayEnd G s
+  pub listed : outcomes G e t ≡ outcomes G e s
+  pub full : full G e t ≡ full G e s
+
+-- a leaf of a filter: it ends as its child, and has a filter's outcomes over those of its child
+pub record Filters (G : Graph) (e : Meaning) (n : ℕ) (σ : Substitution) (s : State) : Type 0 where
+  pub ends : mayEnd G (leaf n σ) ≡ mayEnd G s
+  pub listed : outcomes G e (leaf n σ) ≡ filterOutcomes n (passesAt (G .node n) e) (leaf n σ) (outcomes G e s)
+  pub full : full G e (leaf n σ) ≡ (overflowing (outcomes G e (leaf n σ)) || (passesAt (G .node n) e && full G e s))
+
+-- what a leaf computes to is what its children compute to: the bound on the depth, one more than the rank, is never met
 abbrev pub Opens : Graph → Meaning → ℕ → Substitution → Node → Type 0
 Opens G e n σ Empty = Unit {0}
 Opens G e n σ (Prefix p t) = Unit {0}
-Opens G e n σ (Pair o a b) =
-    (outcomes G e (leaf n σ) ≡ outcomes G e (pair o (child G a σ) (child G b σ))) × (full G e (leaf n σ) ≡ full G e (pair o (child G a σ) (child G b σ)))
-Opens G e n σ (Binder v c) =
-    (outcomes G e (leaf n σ) ≡ outcomes G e (binder v (child G c (without v σ)))) × (full G e (leaf n σ) ≡ full G e (binder v (child G c (without v σ))))
-Opens G e n σ (Filter p c) =
-    (outcomes G e (leaf n σ) ≡ filterOutcomes n (passesAt (G .node n) e) (leaf n σ) (outcomes G e (child G c σ))) ×
-    (full G e (leaf n σ) ≡ (overflowing (outcomes G e (leaf n σ)) || (passesAt (G .node n) e && full G e (child G c σ))))
+Opens G e n σ (Pair o a b) = Alike G e (leaf n σ) (pair o (child G a σ) (child G b σ))
+Opens G e n σ (Binder v c) = Alike G e (leaf n σ) (binder v (child G c (without v σ)))
+Opens G e n σ (Filter p c) = Filters G e n σ (child G c σ)
 
+-- so it is at every leaf
 abbrev pub Opened : Type 0
 Opened = (r : Rule) (e : Meaning) (n : ℕ) (σ : Substitution) → Opens (graphOf r) e n σ (graphOf r .node n)

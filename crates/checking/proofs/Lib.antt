@@ -12,6 +12,6 @@ mod Frees
 mod Emptied
 mod Assessing
 mod Checking
-pub mod Meant
+mod Meant
 mod Descends
 mod Written

@@ -15,6 +15,7 @@ pub enum Layer {
     Checking,
     Record,
     Word,
+    Showing,
 }
 
 impl Layer {
@@ -27,6 +28,7 @@ impl Layer {
             Layer::Checking => "checking",
             Layer::Record => "record",
             Layer::Word => "word",
+            Layer::Showing => "showing",
         }
     }
 }

@@ -1,0 +1,5 @@
+pub mod Listed
+pub mod Adding
+pub mod Wrapping
+pub mod Stepping
+pub mod Holding
