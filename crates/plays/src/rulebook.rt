@@ -9,20 +9,20 @@ use std::alloc::Global;
 use std::error::AnyError;
 
 // Either nothing, or a card is entered and then, shuffled with the same again, adjusted, cap-tested and published.
-pub const CARD_RULE: &[u8] =
+pub(crate) const CARD_RULE: &[u8] =
     b"\x08\x07\x04\x01\x02\x00\x13\x06\x03\x00\x4B\x01\x04\x01\x01\x00\x00\x00\x00\x07\x05\x00\x05\x4B\x01\x06\x02\x01\x00\x00\x00\x00\x4B\x01\x07\x03\x01\x00\x00\x00\x00\x4B\x01\x01\x04\x01\x00\x00\x00\x00";
 
 // Events of type 1 without end.
-pub const AGAIN: &[u8] = b"\x01\x0B\x01\x00\x01";
+pub(crate) const AGAIN: &[u8] = b"\x01\x0B\x01\x00\x01";
 
 // The same under a binder whose variable no pattern names.
-pub const UNBOUND: &[u8] = b"\x02\x13\x06\x01\x00\x0B\x01\x00\x01";
+pub(crate) const UNBOUND: &[u8] = b"\x02\x13\x06\x01\x00\x0B\x01\x00\x01";
 
 // An event of type 48, and then one of type 1 with card 7.
-pub const MIXED: &[u8] = b"\x03\x0B\x01\x01\x30\x4B\x01\x02\x01\x00\x00\x00\x00\x07\x00";
+pub(crate) const MIXED: &[u8] = b"\x03\x0B\x01\x01\x30\x4B\x01\x02\x01\x00\x00\x00\x00\x07\x00";
 
 // A rule of bytes that are known to be one.
-pub fn rule_of(bytes: &[u8]) -> Result<Rule, AnyError> {
+pub(crate) fn rule_of(bytes: &[u8]) -> Result<Rule, AnyError> {
     let mut list = [NodeRecord::BLANK; MOST_NODES];
     let mut rule = Rule::empty();
     let Ok(count) = read(bytes, &mut list) else {
@@ -36,7 +36,7 @@ pub fn rule_of(bytes: &[u8]) -> Result<Rule, AnyError> {
 
 // The deepest rule that makes large states: 64 ors one below the other, then 62 filters, and events of type 1 without end. Its rank
 // is 127, and its states have 63 cells.
-pub fn deep_rule(heap: Global) -> Result<Vec<u8>, AllocError> {
+pub(crate) fn deep_rule(heap: Global) -> Result<Vec<u8>, AllocError> {
     let mut bytes = vec![in heap; 128u8]?;
     for n in 0u8..64 {
         bytes.extend_from_slice(&[7, 4, n + 1, 127])?;
