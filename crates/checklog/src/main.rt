@@ -1,4 +1,6 @@
 // Reads a day's log from standard input, and tells whether every line can be read and what events it holds.
+#![tactic(auto)]
+
 mod report;
 mod survey;
 

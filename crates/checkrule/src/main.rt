@@ -1,4 +1,6 @@
 // Reads `rule.bin`, checks it, and prints the rule node by node, or why it is refused.
+#![tactic(auto)]
+
 use checking::check::check;
 use checking::rule::Rule;
 use refusals::{Place, Refusal, Span};

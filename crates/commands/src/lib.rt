@@ -1,4 +1,6 @@
 // Lines of a text protocol, read into commands.
+#![tactic(auto)]
+
 mod arguments;
 pub mod command;
 pub mod hex;

@@ -1,4 +1,6 @@
 // Reads commands from standard input, one a line, and answers each with one line on standard output.
+#![tactic(auto)]
+
 mod ends;
 
 use ends::without_end;

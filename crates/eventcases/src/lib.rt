@@ -1,4 +1,6 @@
 // The worked examples of reading events, as tables that are run.
+#![tactic(auto)]
+
 #[cfg(test)]
 mod tests {
     use events::derived::{Derived, Entries, Entry};

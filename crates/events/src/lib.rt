@@ -1,4 +1,6 @@
 // Events of every kind: what they mean, and how they are queried.
+#![tactic(auto)]
+
 pub mod derived;
 pub mod event;
 pub mod fields;

@@ -1,4 +1,6 @@
 // Commands over the whole library: a rule in force, entries for derived types, and a monitor.
+#![tactic(auto)]
+
 use checking::rule::Rule;
 use events::derived::Entries;
 use monitor::Monitor;

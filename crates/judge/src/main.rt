@@ -1,5 +1,7 @@
 // Judges the log on standard input by the rule in `rule.bin`, and prints the report. What is wrong with the rule or the log goes to
 // standard error.
+#![tactic(auto)]
+
 use anyhow::anyhow;
 use checking::rule::Rule;
 use events::derived::{Entries, Entry};

@@ -1,4 +1,6 @@
 // The worked examples of judging, reporting and excerpts, as tables that are run.
+#![tactic(auto)]
+
 #[cfg(test)]
 mod tests {
     use calculus::verdict::Verdict;

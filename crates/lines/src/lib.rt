@@ -1,4 +1,6 @@
 // Events as lines of text, and logs of such lines.
+#![tactic(auto)]
+
 mod digits;
 pub mod fault;
 pub mod line;

@@ -1,4 +1,6 @@
 // Loading a rule: its bytes are read and its nodes checked, in one call.
+#![tactic(auto)]
+
 ghost use Rattle.std.specs.Prelude.{◌≡◌};
 ghost use Rattle.loading.specs.Loading.{Loads};
 

@@ -1,4 +1,6 @@
 // A monitor: it is begun on a checked rule, is shown events of any kind, and answers two counts and a verdict.
+#![tactic(auto)]
+
 ghost use Rattle.std.specs.Prelude.{◌≤◌};
 
 use checking::rule::Rule;

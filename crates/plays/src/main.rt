@@ -1,4 +1,6 @@
 // Plays that reach the limits or mix the kinds of event, run one after the other: each prints what it comes to.
+#![tactic(auto)]
+
 mod rulebook;
 
 use anyhow::anyhow;

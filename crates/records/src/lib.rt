@@ -1,4 +1,6 @@
 // Events as binary records.
+#![tactic(auto)]
+
 ghost use Rattle.std.specs.Prelude.{◌≡◌, Some, None, MatchOption};
 ghost use Rattle.events.specs.Meanings.{single};
 ghost use Rattle.records.specs.Encoding.{Exactly};

@@ -1,4 +1,6 @@
 // What every refusal answers: its number, the part of the library that found the fault, and where it lies.
+#![tactic(auto)]
+
 ghost use Rattle.std.specs.Prelude.{◌≡◌, ◌+◌, ◌^◌, ◌<◌, length, take, drop, Some};
 ghost use Rattle.refusals.specs.Names.{name_of};
 

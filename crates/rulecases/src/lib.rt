@@ -1,4 +1,6 @@
 // The worked examples of reading and checking a rule, as one table that is run.
+#![tactic(auto)]
+
 #[cfg(test)]
 mod tests {
     use checking::check::check as check_rule;

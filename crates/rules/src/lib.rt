@@ -1,4 +1,6 @@
 // Rules: the words that code and mathematics share, how bytes lay a rule out, and reading them.
+#![tactic(auto)]
+
 pub mod fault;
 pub mod layout;
 pub mod node;

@@ -1,4 +1,6 @@
 // How the parts of a rule are written out.
+#![tactic(auto)]
+
 ghost use Rattle.std.specs.Prelude.{Some};
 ghost use Rattle.ruletext.specs.Text.{var_text, slot_text, pattern_text, op_text, node_text};
 

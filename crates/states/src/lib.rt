@@ -1,4 +1,6 @@
 // States in memory, and what a rule's nodes and patterns make of an event.
+#![tactic(auto)]
+
 pub mod copying;
 pub mod ending;
 pub mod equality;

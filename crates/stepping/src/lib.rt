@@ -1,4 +1,6 @@
 // The steps of held states at an event.
+#![tactic(auto)]
+
 mod adding;
 pub mod fault;
 pub mod held;
