@@ -12,4 +12,4 @@ returns c =
     let m : get_or xs 0 0 ≤ 7 = search rules in
     let k : get_or xs 1 0 ≤ 47 = search rules in
     let e : fields_of xs ≡ announced (get_or xs 0 0) (get_or xs 1 0) (drop 2 xs) = ap fields_of (two_read xs h) ∙ rw (le-leb (get_or xs 0 0) 7 m, le-leb (get_or xs 1 0) 47 k) in
-    c.announced-fields.ensures ∙ ap (announced (get_or xs 0 0) (get_or xs 1 0)) (take_rest xs 2) ∙ sym e
+    c.announced_fields.ensures ∙ ap (announced (get_or xs 0 0) (get_or xs 1 0)) (take_rest xs 2) ∙ sym e

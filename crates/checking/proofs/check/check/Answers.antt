@@ -13,8 +13,8 @@ use Rattle.checking.proofs.check.check.Goals as goal
 pub assess-requires : goal.assess-requires
 assess-requires c = all_ranged c.args.list.now c.in-Ok.nodes c.in-Ok.ensures.1 (omega arith)
 
-pub invariant-of-made : goal.invariant-of-made
-invariant-of-made c =
+pub invariant_of-made : goal.invariant_of-made
+invariant_of-made c =
     let l = c.args.list.now in
     let ns = c.in-Ok.nodes in
     let q = c.in-Ok.ensures.1 in

@@ -7,9 +7,9 @@ use Rattle.checking.proofs.graph.nodes_of.Goals as goal
 pub loop-i-init : goal.loop-i-init
 loop-i-init c = (search rules, (λ m h. absurd (omega arith)), (λ m h. all_empty 128 m), refl)
 
-pub returns-in-default : goal.returns-in-default
-returns-in-default c =
-    c.loop-i.invariant.0 ∙ first_hit (misplaced c.args.list.now) (length c.args.list.now) c.loop-i.i c.loop-i-test.true (not_placed c.args.list.now c.loop-i.i (sym c.in-default.ensures))
+pub returns-in_default : goal.returns-in_default
+returns-in_default c =
+    c.loop-i.invariant.0 ∙ first_hit (misplaced c.args.list.now) (length c.args.list.now) c.loop-i.i c.loop-i-test.true (not_placed c.args.list.now c.loop-i.i (sym c.in_default.ensures))
 
 pub loop-i-preserved : goal.loop-i-preserved
 loop-i-preserved c =

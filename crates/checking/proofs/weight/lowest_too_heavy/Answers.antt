@@ -10,10 +10,10 @@ loop-n-preserved c =
     c.loop-n.invariant ∙ first_miss (heavy (node c.args.nodes.now)) 128 c.loop-n.n c.loop-n-test.true
     (light (node c.args.nodes.now) c.loop-n.n _ (c.in-Some.ensures.leaves _ (c.requires c.loop-n.n)))
 
-pub returns-in-default : goal.returns-in-default
-returns-in-default c =
+pub returns-in_default : goal.returns-in_default
+returns-in_default c =
     sym (c.loop-n.invariant ∙ first_hit (heavy (node c.args.nodes.now)) 128 c.loop-n.n c.loop-n-test.true
-    (too_heavy (node c.args.nodes.now) c.loop-n.n (c.in-default.ensures.leaves _ (c.requires c.loop-n.n))))
+    (too_heavy (node c.args.nodes.now) c.loop-n.n (c.in_default.ensures.leaves _ (c.requires c.loop-n.n))))
 
 pub returns : goal.returns
 returns c = sym (c.loop-n.invariant ∙ first_end (heavy (node c.args.nodes.now)) 128 c.loop-n.n (omega arith))

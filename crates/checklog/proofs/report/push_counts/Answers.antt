@@ -5,8 +5,8 @@ use Rattle.checklog.proofs.report.push_counts.Goals as goal
 
 pub loop-ty-preserved : goal.loop-ty-preserved
 loop-ty-preserved c =
-    counts_more c.args.counts.now (string_bytes c.loop-ty.text) (string_bytes c.push-count.new.text) (string_bytes c.args.text.now ++ counts_text 0 c.args.counts.now) c.loop-ty.ty (omega arith)
-    c.in-ok-push-count.ensures c.loop-ty.invariant
+    counts_more c.args.counts.now (string_bytes c.loop-ty.text) (string_bytes c.push_count.new.text) (string_bytes c.args.text.now ++ counts_text 0 c.args.counts.now) c.loop-ty.ty (omega arith)
+    c.in_ok-push_count.ensures c.loop-ty.invariant
 
 pub returns : goal.returns
 returns c =

@@ -7,5 +7,5 @@ use Rattle.commands.proofs.hex.pairs.Goals as goal
 pub loop-left-preserved : goal.loop-left-preserved
 loop-left-preserved c =
     let h : 2 ≤ length c.loop-left.left.now = search rules in
-    rw (take_rest c.loop-left.left.now 2, c.in-ok-push.ensures.items)
+    rw (take_rest c.loop-left.left.now 2, c.in_ok-push.ensures.items)
     (onto_more c.loop-left.left.now (vec_items c.loop-left.bytes) c.in-Some.b (pairs_of c.args.text.now) h c.in-Some.ensures c.loop-left.invariant)

@@ -2,15 +2,15 @@ use Rattle.std.proofs.Common.{get_or, arith}
 use Rattle.commands.proofs.Digits.{digit_small, room, number_more, set_refused, set_all}
 use Rattle.commands.proofs.hex.set.Goals as goal
 
-pub returns-in-default : goal.returns-in-default
-returns-in-default c = set_refused c.args.text.now c.loop-b.bits c.loop-b.b-index c.loop-b.invariant.0 c.if-text-ne16.false c.loop-b-test.true c.in-default.ensures
+pub returns-in_default : goal.returns-in_default
+returns-in_default c = set_refused c.args.text.now c.loop-b.bits c.loop-b.b-index c.loop-b.invariant.0 c.if-text-ne16.false c.loop-b-test.true c.in_default.ensures
 
-pub overflow-mul-bits : goal.overflow-mul-bits
-overflow-mul-bits c =
+pub overflow_mul-bits : goal.overflow_mul-bits
+overflow_mul-bits c =
     omega (arith, room c.loop-b.b-index c.loop-b.bits c.in-Some.d (omega arith) c.loop-b.invariant.1 (digit_small (get_or c.args.text.now c.loop-b.b-index 0) c.in-Some.d c.in-Some.ensures))
 
-pub overflow-add-bits : goal.overflow-add-bits
-overflow-add-bits c =
+pub overflow_add-bits : goal.overflow_add-bits
+overflow_add-bits c =
     omega (arith, room c.loop-b.b-index c.loop-b.bits c.in-Some.d (omega arith) c.loop-b.invariant.1 (digit_small (get_or c.args.text.now c.loop-b.b-index 0) c.in-Some.d c.in-Some.ensures))
 
 pub loop-b-preserved : goal.loop-b-preserved

@@ -16,8 +16,8 @@ returns-then-b-eq45 c =
 pub returns-else-b-eq45 : goal.returns-else-b-eq45
 returns-else-b-eq45 c = let e : None ≡ unhexed c.args.text.now = search rules in record { answer = e; exact = exactly c.args.text.now None e }
 
-pub returns-in-default : goal.returns-in-default
-returns-in-default c =
+pub returns-in_default : goal.returns-in_default
+returns-in_default c =
     let h : 2 ≤ length c.args.text.now = search rules in
     record {
       answer = IfOk-weaker c.pairs.result _ _ (λ o e. e ∙ long_text c.args.text.now h) c.pairs.ensures;

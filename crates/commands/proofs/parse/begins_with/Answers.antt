@@ -7,4 +7,4 @@ use Rattle.commands.proofs.parse.begins_with.Goals as goal
 pub returns : goal.returns
 returns c =
     same_bytes c.args.word.now c.cut.result.0.now c.eq.result c.eq.ensures
-    ∙ ap (bytes_eq c.args.word.now) (c.cut.ensures.first ∙ ap before (c.as-bytes.ensures.value ∙ c.text.ensures))
+    ∙ ap (bytes_eq c.args.word.now) (c.cut.ensures.first ∙ ap before (c.as_bytes.ensures.value ∙ c.text.ensures))

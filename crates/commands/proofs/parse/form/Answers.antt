@@ -7,14 +7,14 @@ use Rattle.commands.proofs.parse.form.Goals as goal
 pub loop-form-init : goal.loop-form-init
 loop-form-init c = refl
 
-pub returns-then-begins-with : goal.returns-then-begins-with
-returns-then-begins-with c =
+pub returns-then-begins_with : goal.returns-then-begins_with
+returns-then-begins_with c =
     ap (λ o. unwrap_or o Unknown)
-    (named_here form_word forms c.args.word.now c.loop-form.form-index Rule c.loop-form.invariant (form_word (get_or forms c.loop-form.form-index Rule)) c.loop-form-test.true refl c.if-begins-with.ensures)
+    (named_here form_word forms c.args.word.now c.loop-form.form-index Rule c.loop-form.invariant (form_word (get_or forms c.loop-form.form-index Rule)) c.loop-form-test.true refl c.if-begins_with.ensures)
 
 pub loop-form-preserved : goal.loop-form-preserved
 loop-form-preserved c =
-    named_more form_word forms c.args.word.now c.loop-form.form-index Rule c.loop-form.invariant (form_word (get_or forms c.loop-form.form-index Rule)) c.loop-form-test.true refl c.if-begins-with.ensures
+    named_more form_word forms c.args.word.now c.loop-form.form-index Rule c.loop-form.invariant (form_word (get_or forms c.loop-form.form-index Rule)) c.loop-form-test.true refl c.if-begins_with.ensures
 
 pub returns : goal.returns
 returns c = ap (λ o. unwrap_or o Unknown) (named_none form_word forms c.args.word.now c.loop-form.form-index Rule c.loop-form.invariant c.loop-form-test.false)

@@ -5,4 +5,4 @@ use Rattle.commands.proofs.words.is.Goals as goal
 
 pub returns : goal.returns
 returns c =
-    same_bytes c.args.word.now c.as-bytes.result.now c.eq.result c.eq.ensures ∙ ap (bytes_eq c.args.word.now) c.as-bytes.ensures.value
+    same_bytes c.args.word.now c.as_bytes.result.now c.eq.result c.eq.ensures ∙ ap (bytes_eq c.args.word.now) c.as_bytes.ensures.value

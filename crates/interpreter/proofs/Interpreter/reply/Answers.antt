@@ -10,5 +10,5 @@ pub returns-in-Malformed : goal.returns-in-Malformed
 returns-in-Malformed c = ?
 
 -- src/answering.rt:61:5
-pub returns-in-ok-run : goal.returns-in-ok-run
-returns-in-ok-run c = ?
+pub returns-in_ok-run : goal.returns-in_ok-run
+returns-in_ok-run c = ?

@@ -7,8 +7,8 @@ use Rattle.judging.proofs.judge.show_log.Goals as goal
 pub loop-line-init : goal.loop-line-init
 loop-line-init c = before c.args.entries.now c.args.log.now c.args.monitor.now (left c.of-left.result) c.requires.begun c.of-left.ensures
 
-pub show-line-requires : goal.show-line-requires
-show-line-requires c =
+pub show_line-requires : goal.show_line-requires
+show_line-requires c =
     let u = next_line c.args.monitor.now.rule c.args.entries.now c.args.log.now c.loop-line.monitor (left c.loop-line.left) (left c.next.new.self) c.in-Some.line c.in-Some.ensures.line c.in-Some.ensures.lines c.loop-line.invariant in
     room c.args.monitor.now.rule c.args.entries.now c.args.log.now c.loop-line.monitor c.in-Some.line (left c.next.new.self) u c.requires.short
 
@@ -18,12 +18,12 @@ loop-line-smaller c = omega (arith, ap length (first_line (left c.loop-line.left
 pub loop-line-preserved : goal.loop-line-preserved
 loop-line-preserved c =
     let u = next_line c.args.monitor.now.rule c.args.entries.now c.args.log.now c.loop-line.monitor (left c.loop-line.left) (left c.next.new.self) c.in-Some.line c.in-Some.ensures.line c.in-Some.ensures.lines c.loop-line.invariant in
-    again c.args.monitor.now.rule c.args.entries.now c.args.log.now c.loop-line.monitor c.in-Some.line (left c.next.new.self) u c.show-line.new.monitor (c.in-ok-show-line.ensures c.args.monitor.now.rule u.es u.watches)
+    again c.args.monitor.now.rule c.args.entries.now c.args.log.now c.loop-line.monitor c.in-Some.line (left c.next.new.self) u c.show_line.new.monitor (c.in_ok-show_line.ensures c.args.monitor.now.rule u.es u.watches)
 
-pub returns-in-err-show-line : goal.returns-in-err-show-line
-returns-in-err-show-line c =
+pub returns-in_err-show_line : goal.returns-in_err-show_line
+returns-in_err-show_line c =
     let u = next_line c.args.monitor.now.rule c.args.entries.now c.args.log.now c.loop-line.monitor (left c.loop-line.left) (left c.next.new.self) c.in-Some.line c.in-Some.ensures.line c.in-Some.ensures.lines c.loop-line.invariant in
-    stopped c.args.monitor.now.rule c.args.entries.now c.args.log.now c.loop-line.monitor c.in-Some.line (left c.next.new.self) u c.show-line.new.monitor c.from-residual.result c.in-err-show-line.field-0.0 (c.in-err-show-line.ensures c.args.monitor.now.rule u.es u.watches) c.from-residual.ensures.1
+    stopped c.args.monitor.now.rule c.args.entries.now c.args.log.now c.loop-line.monitor c.in-Some.line (left c.next.new.self) u c.show_line.new.monitor c.from_residual.result c.in_err-show_line.field-0.0 (c.in_err-show_line.ensures c.args.monitor.now.rule u.es u.watches) c.from_residual.ensures.1
 
 pub returns : goal.returns
-returns c = ended c.args.monitor.now.rule c.args.entries.now c.args.log.now c.loop-line.monitor (left c.loop-line.left) c.in-default.ensures.line c.loop-line.invariant
+returns c = ended c.args.monitor.now.rule c.args.entries.now c.args.log.now c.loop-line.monitor (left c.loop-line.left) c.in_default.ensures.line c.loop-line.invariant

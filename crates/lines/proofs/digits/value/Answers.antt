@@ -16,7 +16,7 @@ pub loop-b-preserved : goal.loop-b-preserved
 loop-b-preserved c =
     let e = at_drop_more (value_from c.loop-b.n) c.args.digits.now c.loop-b.b-index 0 (omega arith) in
     let i = c.loop-b.invariant in
-    (rw c.saturating-sub.ensures (sym e ∙ i.0), omega arith)
+    (rw c.saturating_sub.ensures (sym e ∙ i.0), omega arith)
 
 pub returns : goal.returns
 returns c =

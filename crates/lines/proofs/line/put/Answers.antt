@@ -7,4 +7,4 @@ use Rattle.lines.proofs.line.put.Goals as goal
 pub returns-in-len1-up : goal.returns-in-len1-up
 returns-in-len1-up c =
     let h : 1 ≤ length c.args.word.now = search rules in
-    rw (take_rest c.args.word.now 1) at c.put-number.ensures ∙ sym (ap (puts c.args.fields) (cons_first c.args.word.now h))
+    rw (take_rest c.args.word.now 1) at c.put_number.ensures ∙ sym (ap (puts c.args.fields) (cons_first c.args.word.now h))

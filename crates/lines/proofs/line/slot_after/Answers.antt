@@ -7,4 +7,4 @@ use Rattle.lines.proofs.line.slot_after.Goals as goal
 pub returns-in-len1-up : goal.returns-in-len1-up
 returns-in-len1-up c =
     let h : 1 ≤ length c.args.word.now = search rules in
-    rw (take_rest c.args.word.now 1) at c.slot-past.ensures ∙ sym (ap (follows c.args.next) (cons_first c.args.word.now h))
+    rw (take_rest c.args.word.now 1) at c.slot_past.ensures ∙ sym (ap (follows c.args.next) (cons_first c.args.word.now h))

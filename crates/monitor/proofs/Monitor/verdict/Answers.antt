@@ -9,12 +9,12 @@ returns-then-self c =
     let q : Broken ≡ verdict_of c.args.self.now = search rules in
     record { answer = q; uses = asked c.args.self.now Broken q; says = judged c.args.self.now Broken q }
 
-pub returns-then-any-ends : goal.returns-then-any-ends
-returns-then-any-ends c =
+pub returns-then-any_ends : goal.returns-then-any_ends
+returns-then-any_ends c =
     let q : MayEnd ≡ verdict_of c.args.self.now = search rules in
     record { answer = q; uses = asked c.args.self.now MayEnd q; says = judged c.args.self.now MayEnd q }
 
-pub returns-else-any-ends : goal.returns-else-any-ends
-returns-else-any-ends c =
+pub returns-else-any_ends : goal.returns-else-any_ends
+returns-else-any_ends c =
     let q : Open ≡ verdict_of c.args.self.now = search rules in
     record { answer = q; uses = asked c.args.self.now Open q; says = judged c.args.self.now Open q }

@@ -10,5 +10,5 @@ returns c =
     let e₂ : string_bytes c.push-2.new.self ≡ string_bytes c.push_str.new.self ++ (hex_digit (c.args.b / 16) ∷ []) =
     c.in_ok-push.ensures.bytes ∙ ap (λ x. string_bytes c.push_str.new.self ++ x) (c.push-2.ensures.ascii (omega (arith, c.hex_digit.ensures)) ∙ ap (λ n. n ∷ []) c.hex_digit.ensures) in
     let e₃ : string_bytes c.push-3.new.self ≡ string_bytes c.push-2.new.self ++ (hex_digit (c.args.b % 16) ∷ []) =
-    c.in-ok-push-2.ensures.bytes ∙ ap (λ x. string_bytes c.push-2.new.self ++ x) (c.push-3.ensures.ascii (omega (arith, c.hex-digit-2.ensures)) ∙ ap (λ n. n ∷ []) c.hex-digit-2.ensures) in
-    escaped_hex c.args.b (string_bytes c.args.text.now) _ _ _ (sym c.if-is-plain.ensures) c.in-ok-push-str.ensures.bytes e₂ e₃
+    c.in_ok-push-2.ensures.bytes ∙ ap (λ x. string_bytes c.push-2.new.self ++ x) (c.push-3.ensures.ascii (omega (arith, c.hex_digit-2.ensures)) ∙ ap (λ n. n ∷ []) c.hex_digit-2.ensures) in
+    escaped_hex c.args.b (string_bytes c.args.text.now) _ _ _ (sym c.if-is_plain.ensures) c.in_ok-push_str.ensures.bytes e₂ e₃

@@ -3,4 +3,4 @@ use Rattle.replies.proofs.Parts.{part_of}
 use Rattle.replies.proofs.text.part_text.Goals as goal
 
 pub returns : goal.returns
-returns c = part_of c.args.bytes.now c.hex-text.result (search rules) c.hex-text.ensures.text
+returns c = part_of c.args.bytes.now c.hex_text.result (search rules) c.hex_text.ensures.text

@@ -15,8 +15,8 @@ returns-then-n-lt10 t c =
       buffer = rw d (over_one c.args.buffer.now c.args.at _ (omega (arith, ap length d)));
     }
 
-pub put-number-end-requires : goal.put-number-end-requires
-put-number-end-requires t c =
+pub put_number-end-requires : goal.put_number-end-requires
+put_number-end-requires t c =
     let d = ap length (decimal_step c.args.n (omega arith) (omega arith)) in
     let e = length_push (decimal (c.args.n / 10)) (48 + c.args.n % 10) in
     (omega arith, omega arith)
@@ -27,8 +27,8 @@ bounds-buffer-end t c =
     let e = length_push (decimal (c.args.n / 10)) (48 + c.args.n % 10) in
     omega arith
 
-pub overflow-add-result-2 : goal.overflow-add-result-2
-overflow-add-result-2 t c =
+pub overflow_add-result-2 : goal.overflow_add-result-2
+overflow_add-result-2 t c =
     let d = ap length (decimal_step c.args.n (omega arith) (omega arith)) in
     let e = length_push (decimal (c.args.n / 10)) (48 + c.args.n % 10) in
     omega arith
@@ -39,5 +39,5 @@ returns t c =
     let e = length_push (decimal (c.args.n / 10)) (48 + c.args.n % 10) in
     record {
       end = omega (arith, ap length d);
-      buffer = rw (c.put-number-end.ensures.buffer, c.put-number-end.ensures.end, d) (over_push c.args.buffer.now c.args.at (decimal (c.args.n / 10)) _ (omega (arith, ap length d)));
+      buffer = rw (c.put_number-end.ensures.buffer, c.put_number-end.ensures.end, d) (over_push c.args.buffer.now c.args.at (decimal (c.args.n / 10)) _ (omega (arith, ap length d)));
     }

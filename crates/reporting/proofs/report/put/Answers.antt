@@ -6,5 +6,5 @@ use Rattle.reporting.proofs.report.put.Goals as goal
 pub returns : goal.returns
 returns c = record {
   end = refl;
-  buffer = put_mid-paste c.args.at (c.args.at + length c.args.text.now - c.args.at) c.args.buffer.now c.copy-from-slice.new.self c.args.text.now (length c.args.text.now) c.copy-from-slice.ensures.after (omega arith) refl ∙ over_paste c.args.buffer.now c.args.at c.args.text.now;
+  buffer = put_mid-paste c.args.at (c.args.at + length c.args.text.now - c.args.at) c.args.buffer.now c.copy_from_slice.new.self c.args.text.now (length c.args.text.now) c.copy_from_slice.ensures.after (omega arith) refl ∙ over_paste c.args.buffer.now c.args.at c.args.text.now;
 }

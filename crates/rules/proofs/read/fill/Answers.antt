@@ -8,8 +8,8 @@ loop-i-preserved c = (
   drop_on c.in-Ok.record c.loop-i.list c.args.list.now c.loop-i.i c.loop-i.invariant.1,
 )
 
-pub returns-in-default : goal.returns-in-default
-returns-in-default c = absurd (fill_never c.args.all c.args.count _ _ c.loop-i.i c.loop-i.rest.now _ c.loop-i-test.true c.in-default.ensures c.requires.fine c.loop-i.invariant.0)
+pub returns-in_default : goal.returns-in_default
+returns-in_default c = absurd (fill_never c.args.all c.args.count _ _ c.loop-i.i c.loop-i.rest.now _ c.loop-i-test.true c.in_default.ensures c.requires.fine c.loop-i.invariant.0)
 
 pub returns : goal.returns
 returns c =

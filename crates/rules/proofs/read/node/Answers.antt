@@ -3,10 +3,10 @@ use Rattle.std.proofs.lemmas.List.{take_rest}
 use Rattle.rules.proofs.Reading.{record_read}
 use Rattle.rules.proofs.read.node.Goals as goal
 
-pub returns-in-default-fields : goal.returns-in-default-fields
-returns-in-default-fields c =
+pub returns-in_default-fields : goal.returns-in_default-fields
+returns-in_default-fields c =
     let h : 1 ≤ length c.args.s.now = search rules in
-    let e = rw (take_rest c.args.s.now 1) at c.in-default-fields.ensures in
+    let e = rw (take_rest c.args.s.now 1) at c.in_default-fields.ensures in
     rw (record_read c.args.s.now h, e)
 
 pub returns-in-Some-decode : goal.returns-in-Some-decode
@@ -21,4 +21,4 @@ returns-in-None c =
     let h : 1 ≤ length c.args.s.now = search rules in
     let e = rw (take_rest c.args.s.now 1) at c.in-Some.ensures in
     let p = c.in-None.ensures in
-    rw (record_read c.args.s.now h, e, ← p, c.saturating-sub.ensures)
+    rw (record_read c.args.s.now h, e, ← p, c.saturating_sub.ensures)

@@ -8,14 +8,14 @@ loop-i-preserved c = valid_more c.args.all c.args.count c.loop-i.i c.loop-i.rest
 pub returns-in-Err : goal.returns-in-Err
 returns-in-Err c = valid_err c.args.all c.args.count c.loop-i.i c.loop-i.rest.now c.in-Err.fault _ c.loop-i-test.true c.in-Err.ensures c.loop-i.invariant
 
-pub returns-then-is-empty : goal.returns-then-is-empty
-returns-then-is-empty c =
+pub returns-then-is_empty : goal.returns-then-is_empty
+returns-then-is_empty c =
     let h : c.args.count - c.loop-i.i ≡ 0 = omega arith in
     let z : length c.loop-i.rest.now ≡ 0 = search rules in
     valid_ends c.args.all c.args.count c.loop-i.rest.now _ z (simp h at c.loop-i.invariant)
 
-pub returns-else-is-empty : goal.returns-else-is-empty
-returns-else-is-empty c =
+pub returns-else-is_empty : goal.returns-else-is_empty
+returns-else-is_empty c =
     let h : c.args.count - c.loop-i.i ≡ 0 = omega arith in
     let z : 0 < length c.loop-i.rest.now = search rules in
-    rw c.saturating-sub.ensures (valid_surplus c.args.all c.args.count c.loop-i.rest.now _ z (simp h at c.loop-i.invariant))
+    rw c.saturating_sub.ensures (valid_surplus c.args.all c.args.count c.loop-i.rest.now _ z (simp h at c.loop-i.invariant))

@@ -12,15 +12,15 @@ use Rattle.stepping.proofs.Growing.{stops, done, none_left}
 use Rattle.stepping.proofs.Overflow.{overflow_kept}
 use Rattle.stepping.proofs.adding.add_on_right.Goals as goal
 
-pub returns-in-err-add : goal.returns-in-err-add
-returns-in-err-add c =
+pub returns-in_err-add : goal.returns-in_err-add
+returns-in_err-add c =
     let g : List Outcome → List Out = λ l. gather (outcomes_on_right c.args.op (state c.args.left.now)) (outcomes_of l) in
-    stops same_outcome overflowing overflow_kept (outcome_of c.in-ok-o.o ∷ []) (g (into_iter_items c.next.new.self)) _ c.from-residual-in-err-add.result c.in-err-add.field-0.0
-    (ap g c.into-iter-r-iterator.ensures.into-iter-gives.0)
-    (ap g c.in-Some.ensures.steps.0 ∙ ap (λ (x : Out). x ∷ g (into_iter_items c.next.new.self)) (sym c.in-ok-o.ensures)) c.loop-r.invariant c.in-err-add.ensures
-    c.from-residual-in-err-add.ensures.1
+    stops same_outcome overflowing overflow_kept (outcome_of c.in_ok-o.o ∷ []) (g (into_iter_items c.next.new.self)) _ c.from_residual-in_err-add.result c.in_err-add.field-0.0
+    (ap g c.into_iter-r-iterator.ensures.into_iter-gives.0)
+    (ap g c.in-Some.ensures.steps.0 ∙ ap (λ (x : Out). x ∷ g (into_iter_items c.next.new.self)) (sym c.in_ok-o.ensures)) c.loop-r.invariant c.in_err-add.ensures
+    c.from_residual-in_err-add.ensures.1
 
 pub returns : goal.returns
 returns c =
     let g : List Outcome → List Out = λ l. gather (outcomes_on_right c.args.op (state c.args.left.now)) (outcomes_of l) in
-    done same_outcome overflowing (ap g c.into-iter-r-iterator.ensures.into-iter-gives.0) (ap g (none_left c.loop-r.r-iterator c.in-None.ensures.steps.0)) c.loop-r.invariant
+    done same_outcome overflowing (ap g c.into_iter-r-iterator.ensures.into_iter-gives.0) (ap g (none_left c.loop-r.r-iterator c.in-None.ensures.steps.0)) c.loop-r.invariant

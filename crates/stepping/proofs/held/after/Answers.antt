@@ -9,18 +9,18 @@ loop-t-init c = begins c.args.rule.now c.args.event.now c.args.held.now _ c.new-
 pub loop-t-preserved : goal.loop-t-preserved
 loop-t-preserved c =
     turns c.args.rule.now c.args.event.now c.args.held.now c.loop-t.t-index c.t-item.result (states (vec_items c.loop-t.next)) c.loop-t-test.true c.t-item.is
-    c.loop-t.invariant _ c.in-ok-outcomes.outcomes c.in-ok-outcomes.ensures c.in-ok-hold-all.ensures
+    c.loop-t.invariant _ c.in_ok-outcomes.outcomes c.in_ok-outcomes.ensures c.in_ok-hold_all.ensures
 
-pub returns-in-err-outcomes : goal.returns-in-err-outcomes
-returns-in-err-outcomes c =
+pub returns-in_err-outcomes : goal.returns-in_err-outcomes
+returns-in_err-outcomes c =
     one_full c.args.rule.now c.args.event.now c.args.held.now c.loop-t.t-index c.t-item.result (states (vec_items c.loop-t.next)) c.loop-t-test.true c.t-item.is
-    c.loop-t.invariant c.from-residual.result c.in-err-outcomes.field-0.0 c.in-err-outcomes.ensures c.from-residual.ensures.1
+    c.loop-t.invariant c.from_residual.result c.in_err-outcomes.field-0.0 c.in_err-outcomes.ensures c.from_residual.ensures.1
 
-pub returns-in-err-hold-all : goal.returns-in-err-hold-all
-returns-in-err-hold-all c =
+pub returns-in_err-hold_all : goal.returns-in_err-hold_all
+returns-in_err-hold_all c =
     all_full c.args.rule.now c.args.event.now c.args.held.now c.loop-t.t-index c.t-item.result (states (vec_items c.loop-t.next)) c.loop-t-test.true c.t-item.is
-    c.loop-t.invariant c.in-ok-outcomes.outcomes c.from-residual-in-err-hold-all.result c.in-err-hold-all.field-0.0 c.in-ok-outcomes.ensures
-    c.in-err-hold-all.ensures c.from-residual-in-err-hold-all.ensures.1
+    c.loop-t.invariant c.in_ok-outcomes.outcomes c.from_residual-in_err-hold_all.result c.in_err-hold_all.field-0.0 c.in_ok-outcomes.ensures
+    c.in_err-hold_all.ensures c.from_residual-in_err-hold_all.ensures.1
 
 pub returns : goal.returns
 returns c = ends c.args.rule.now c.args.event.now c.args.held.now c.loop-t.t-index c.loop-t.next c.loop-t-test.false c.loop-t.invariant

@@ -8,14 +8,14 @@ use Rattle.stepping.specs.Listed.{states}
 use Rattle.stepping.proofs.Next.{new_many, new_fits}
 use Rattle.stepping.proofs.holding.hold.Goals as goal
 
-pub returns-then-len-ge-MOST-HELD : goal.returns-then-len-ge-MOST-HELD
-returns-then-len-ge-MOST-HELD c =
+pub returns-then-len-ge-MOST_HELD : goal.returns-then-len-ge-MOST_HELD
+returns-then-len-ge-MOST_HELD c =
     new_many (states (vec_items c.args.held.now)) (state c.args.t)
     (ap (λ l. member same_state (state c.args.t) (states l)) (sym c.deref.ensures.value) ∙ sym c.if-contains.ensures) (simp length-map (omega (arith, c.args.held.now.ok.0)))
 
 pub returns : goal.returns
 returns c =
-    let pushed = chosen _ _ _ _ c.push.ensures.items (ap is_ok c.in-ok-push.was) in
+    let pushed = chosen _ _ _ _ c.push.ensures.items (ap is_ok c.in_ok-push.was) in
     new_fits (states (vec_items c.args.held.now)) (state c.args.t) _
     (ap (λ l. member same_state (state c.args.t) (states l)) (sym c.deref.ensures.value) ∙ sym c.if-contains.ensures) (simp length-map (omega (arith, c.args.held.now.ok.0)))
     (ap states pushed ∙ map_push state (vec_items c.args.held.now) c.args.t)

@@ -4,8 +4,8 @@ use Rattle.checking.proofs.Nodes.{all_empty}
 use Rattle.checking.proofs.Emptied.{empty_inside, empty_link, empty_names, empty_passed, empty_loopless, empty_light, no_free}
 use Rattle.checking.proofs.rule.Rule.empty.Goals as goal
 
-pub invariant-of-result : goal.invariant-of-result
-invariant-of-result c = (
+pub invariant_of-result : goal.invariant_of-result
+invariant_of-result c = (
   omega arith,
   (
     omega arith,

@@ -10,6 +10,6 @@ returns c =
     let self = c.args.self.now in
     let k = get_or self.rank c.args.n 0 in
     record {
-      is = c.node-at.ensures;
-      falls = subst (λ (x : Node). Falls self.rank k (targets Unguarded x)) (sym c.node-at.ensures) (descends self.rank k (targets Unguarded (node self.nodes c.args.n)) (self.falls c.args.n));
+      is = c.node_at.ensures;
+      falls = subst (λ (x : Node). Falls self.rank k (targets Unguarded x)) (sym c.node_at.ensures) (descends self.rank k (targets Unguarded (node self.nodes c.args.n)) (self.falls c.args.n));
     }

@@ -14,15 +14,15 @@ bounds-counts-event c = omega (arith, known c.args.log.now c.in-Some.line c.in-O
 pub bounds-counts-event-in-Ok : goal.bounds-counts-event-in-Ok
 bounds-counts-event-in-Ok c = omega (arith, known c.args.log.now c.in-Some.line c.in-Ok.event c.in-Ok.ensures)
 
-pub overflow-add-counts : goal.overflow-add-counts
-overflow-add-counts c =
+pub overflow_add-counts : goal.overflow_add-counts
+overflow_add-counts c =
     let h = at_line c.args.log.now (left c.loop-line.left) (left c.next.new.self) c.in-Some.line c.loop-line.lines c.loop-line.counts c.in-Some.ensures.line c.in-Some.ensures.lines c.loop-line.invariant in
     let r = room c.args.log.now c.in-Some.line (left c.next.new.self) c.in-Ok.event c.loop-line.lines c.loop-line.counts c.in-Ok.ensures
     (known c.args.log.now c.in-Some.line c.in-Ok.event c.in-Ok.ensures) h in
     search rules
 
-pub overflow-add-lines : goal.overflow-add-lines
-overflow-add-lines c =
+pub overflow_add-lines : goal.overflow_add-lines
+overflow_add-lines c =
     let h = at_line c.args.log.now (left c.loop-line.left) (left c.next.new.self) c.in-Some.line c.loop-line.lines c.loop-line.counts c.in-Some.ensures.line c.in-Some.ensures.lines c.loop-line.invariant in
     let r = room c.args.log.now c.in-Some.line (left c.next.new.self) c.in-Ok.event c.loop-line.lines c.loop-line.counts c.in-Ok.ensures
     (known c.args.log.now c.in-Some.line c.in-Ok.event c.in-Ok.ensures) h in
