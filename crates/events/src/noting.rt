@@ -8,7 +8,7 @@ use crate::types::TypeSet;
 
 // The types of a set that an event is of; it is asked once for each type of the set.
 pub(crate) fn types_among<E: Event>(event: &E, set: TypeSet) -> TypeSet
-    ensures { result ≡ common set (meaning event.now).types }
+    ensures { result ≡ common set (E.meaning event.now).types }
 {
     let mut bits: u64 = 0;
     for ty in 0..64u8 {
@@ -21,7 +21,7 @@ pub(crate) fn types_among<E: Event>(event: &E, set: TypeSet) -> TypeSet
 
 // Queries an event once for each type and slot: the answers are its meaning.
 pub fn noted<E: Event>(event: &E) -> Meaning
-    ensures { result ≡ meaning event.now }
+    ensures { result ≡ E.meaning event.now }
 {
     Meaning {
         types: types_among(event, TypeSet { bits: u64::MAX }),

@@ -4,3 +4,5 @@ pub mod Writing
 pub mod Refusals
 pub mod Vars
 pub mod Spans
+pub mod Ops
+pub mod Numbers

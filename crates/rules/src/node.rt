@@ -1,6 +1,8 @@
 // What a rule is made of.
-ghost use Rattle.std.specs.Prelude.{◌≡◌, Decides};
+ghost use Rattle.std.specs.Prelude.{◌≡◌, Decides, nat_eq};
+ghost use Rattle.std.specs.Ordering.{on};
 ghost use Rattle.rules.specs.Vars.{index_of};
+ghost use Rattle.rules.specs.Ops.{number_of};
 ghost use Rattle.std.specs.Cmp.Rules.{comparing};
 ghost use Rattle.std.proofs.Common.{rules};
 
@@ -28,11 +30,14 @@ impl Var {
 }
 
 impl PartialEq for Var {
-    ghost equals = { λ x y r. Decides r (x ≡ y) };
+    ghost eq = { on index_of nat_eq };
 
     ghost laws = { Prim.search (comparing, rules) };
 
-    fn eq(&self, other: &Var) -> bool {
+    fn eq(&self, other: &Var) -> bool
+        ensures same { result ≡ nat_eq (index_of self.now) (index_of other.now) }
+        ensures decides { Decides result (self.now ≡ other.now) }
+    {
         match (*self, *other) {
             (Var::V0, Var::V0) => true,
             (Var::V1, Var::V1) => true,
@@ -70,11 +75,14 @@ pub enum Op {
 }
 
 impl PartialEq for Op {
-    ghost equals = { λ x y r. Decides r (x ≡ y) };
+    ghost eq = { on number_of nat_eq };
 
     ghost laws = { Prim.search (comparing, rules) };
 
-    fn eq(&self, other: &Op) -> bool {
+    fn eq(&self, other: &Op) -> bool
+        ensures same { result ≡ nat_eq (number_of self.now) (number_of other.now) }
+        ensures decides { Decides result (self.now ≡ other.now) }
+    {
         match (*self, *other) {
             (Op::Or, Op::Or) => true,
             (Op::And, Op::And) => true,

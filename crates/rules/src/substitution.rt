@@ -1,5 +1,6 @@
 // Numbers for some of the variables.
 ghost use Rattle.std.specs.Prelude.{◌≡◌, Decides};
+ghost use Rattle.rules.specs.Numbers.{same_numbers};
 ghost use Rattle.std.specs.Cmp.Rules.{comparing};
 ghost use Rattle.std.proofs.Common.{rules};
 
@@ -24,11 +25,14 @@ fn same_number(a: Option<u32>, b: Option<u32>) -> bool
 }
 
 impl PartialEq for Substitution {
-    ghost equals = { λ x y r. Decides r (x ≡ y) };
+    ghost eq = { same_numbers };
 
-    ghost laws = { Prim.search (comparing, rules) };
+    ghost laws = { Prim.search (comparing, rules) depth 12 };
 
-    fn eq(&self, other: &Substitution) -> bool {
+    fn eq(&self, other: &Substitution) -> bool
+        ensures same { result ≡ same_numbers self.now other.now }
+        ensures decides { Decides result (self.now ≡ other.now) }
+    {
         same_number(self.n0, other.n0)
             && same_number(self.n1, other.n1)
             && same_number(self.n2, other.n2)
