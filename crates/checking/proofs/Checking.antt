@@ -6,7 +6,6 @@ use Rattle.rules.specs.declared.node.Var.{Var}
 use Rattle.rules.specs.declared.node.Node.{Node}
 use Rattle.rules.specs.declared.node.Node.TheVariants.{Empty}
 use Rattle.checking.specs.declared.links.Links.TheVariants.{Unguarded, Free}
-use Rattle.rules.specs.Vars.{same}
 use Rattle.checking.specs.Links.{names, link, links, inside, Ranged, node}
 use Rattle.checking.specs.Paths.{reach}
 use Rattle.rules.specs.Layout.{blank}

@@ -8,7 +8,6 @@ use Rattle.checking.specs.declared.links.Links.TheVariants.{Unguarded, Free}
 use Rattle.rules.specs.Vars.{same}
 use Rattle.checking.specs.Links.{among, link, links, inside, Ranged}
 use Rattle.checking.specs.Nodes.{or_empty}
-use Rattle.checking.specs.Answer.{first}
 use Rattle.rules.specs.declared.record.NodeRecord.{NodeRecord}
 use Rattle.rules.specs.declared.node.Op.{Op}
 use Rattle.rules.specs.declared.node.Op.TheVariants.{Concat, And, Or, Shuffle}

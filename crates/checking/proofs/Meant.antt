@@ -16,7 +16,7 @@ use Rattle.checking.specs.Paths.{Path, one, more, reach}
 use Rattle.checking.specs.Weights.{Weigh, none, some}
 use Rattle.rules.specs.Layout.{blank}
 use Rattle.checking.specs.Nodes.{found, node_at}
-use Rattle.checking.specs.Answer.{first, misplaced, on_loop, heavy as is_heavy, weights, free, is_free_at_start as is_open, assessed, answer_of, refusing}
+use Rattle.checking.specs.Answer.{first, misplaced, on_loop, heavy as is_heavy, weights, free, is_free_at_start, assessed, answer_of, refusing}
 use Rattle.checking.specs.Meaning.{Lowest, FreeIn, here, up, Looping, Over, Counted, Never, Broken, Says, bad_count, bad_layout, loop, too_heavy, free_at_start, fine}
 use Rattle.checking.proofs.First.{first_none, first_some, first_is, first_nowhere}
 use Rattle.checking.proofs.Nodes.{past}
@@ -71,7 +71,7 @@ module _ (g : ℕ → Node) (G : Ranged g) (B : (k : ℕ) → 128 ≤ k → g k 
   free_whole v n (here h) = free_here g G v n h
   free_whole v n (up {c = c} h p) = free_up g G v n c h (free_whole v c p)
 
-  open_sound : is_open g ≡ true → (v : Var) × FreeIn g v 0
+  open_sound : is_free_at_start g ≡ true → (v : Var) × FreeIn g v 0
   open_sound q =
       elim (or_cases (free g V0 0) _ q) [
         | inl h ↦ (V0, free_sound V0 0 h)
@@ -127,7 +127,7 @@ module _ (rs : List NodeRecord) where
   )
 
   says_open : Counted rs → Never (Broken rs) → Never (Looping (node_at rs)) → Never (Over (node_at rs)) → Ranged (node_at rs) → ((k : ℕ) → 128 ≤ k → node_at rs k ≡ Empty)
-      → (b : Bool) → is_open (node_at rs) ≡ b → Says rs (cond b (Err FreeAtStart) (Ok tt))
+      → (b : Bool) → is_free_at_start (node_at rs) ≡ b → Says rs (cond b (Err FreeAtStart) (Ok tt))
   says_open C W L O G B true q = let h = open_sound (node_at rs) G B q in free_at_start C W L O h.1
   says_open C W L O G B false q = fine C W L O (λ v f. open_clash v (free_whole (node_at rs) G B v 0 f))
     where
@@ -138,13 +138,13 @@ module _ (rs : List NodeRecord) where
       open_clash V3 h = clash _ h (or_parts (free (node_at rs) V2 0) _ (or_parts (free (node_at rs) V1 0) _ (or_parts (free (node_at rs) V0 0) _ q).1).1).1
 
   says_heavy : Counted rs → Never (Broken rs) → (L : Never (Looping (node_at rs))) (G : Ranged (node_at rs)) (B : (k : ℕ) → 128 ≤ k → node_at rs k ≡ Empty)
-      → (o : Option ℕ) → first (is_heavy (node_at rs)) 0 128 ≡ o → Says rs (refusing o TooHeavy (cond (is_open (node_at rs)) (Err FreeAtStart) (Ok tt)))
+      → (o : Option ℕ) → first (is_heavy (node_at rs)) 0 128 ≡ o → Says rs (refusing o TooHeavy (cond (is_free_at_start (node_at rs)) (Err FreeAtStart) (Ok tt)))
   says_heavy C W L G B (Some n) q = too_heavy C W L (lowest (Over (node_at rs)) (is_heavy (node_at rs)) 128 (heavy_sound (node_at rs) G B L) (heavy_whole (node_at rs) G B L) n q)
   says_heavy C W L G B None q =
-      says_open C W L (never (Over (node_at rs)) (is_heavy (node_at rs)) 128 (heavy_sound (node_at rs) G B L) (heavy_whole (node_at rs) G B L) q) G B (is_open (node_at rs)) refl
+      says_open C W L (never (Over (node_at rs)) (is_heavy (node_at rs)) 128 (heavy_sound (node_at rs) G B L) (heavy_whole (node_at rs) G B L) q) G B (is_free_at_start (node_at rs)) refl
 
   says_loop : Counted rs → Never (Broken rs) → (G : Ranged (node_at rs)) (B : (k : ℕ) → 128 ≤ k → node_at rs k ≡ Empty)
-      → (o : Option ℕ) → first (on_loop (node_at rs)) 0 128 ≡ o → Says rs (refusing o Loop (refusing (first (is_heavy (node_at rs)) 0 128) TooHeavy (cond (is_open (node_at rs)) (Err FreeAtStart) (Ok tt))))
+      → (o : Option ℕ) → first (on_loop (node_at rs)) 0 128 ≡ o → Says rs (refusing o Loop (refusing (first (is_heavy (node_at rs)) 0 128) TooHeavy (cond (is_free_at_start (node_at rs)) (Err FreeAtStart) (Ok tt))))
   says_loop C W G B (Some n) q = loop C W (lowest (Looping (node_at rs)) (on_loop (node_at rs)) 128 (loop_sound (node_at rs) G B) (loop_whole (node_at rs) G B) n q)
   says_loop C W G B None q =
       says_heavy C W (never (Looping (node_at rs)) (on_loop (node_at rs)) 128 (loop_sound (node_at rs) G B) (loop_whole (node_at rs) G B) q) G B (first (is_heavy (node_at rs)) 0 128) refl
@@ -191,7 +191,7 @@ module _ (rs : List NodeRecord) (C : Counted rs) where
   no_heavy : Never (Looping (node_at rs)) → Never (Over (node_at rs)) → first (is_heavy (node_at rs)) 0 128 ≡ None
   no_heavy L O = nowhere (Over (node_at rs)) (is_heavy (node_at rs)) 128 (heavy_sound (node_at rs) in_range outside L) (heavy_whole (node_at rs) in_range outside L) O
 
-  is_open : (v : Var) → FreeIn (node_at rs) v 0 → is_open (node_at rs) ≡ true
+  is_open : (v : Var) → FreeIn (node_at rs) v 0 → is_free_at_start (node_at rs) ≡ true
   is_open V0 f = or_left _ _ (free_whole (node_at rs) in_range outside V0 0 f)
   is_open V1 f = or_right (free (node_at rs) V0 0) _ (or_left _ _ (free_whole (node_at rs) in_range outside V1 0 f))
   is_open V2 f = or_right (free (node_at rs) V0 0) _ (or_right (free (node_at rs) V1 0) _ (or_left _ _ (free_whole (node_at rs) in_range outside V2 0 f)))
@@ -209,4 +209,4 @@ said rs _ (too_heavy {n = n} C W L l) =
 said rs _ (free_at_start {v = v} C W L O f) = assessed_when rs C W ∙ rw (no_loops rs C L, no_heavy rs C L O, is_open rs C v f)
 said rs _ (fine C W L O f) =
     assessed_when rs C W
-    ∙ rw (no_loops rs C L, no_heavy rs C L O, no_true (is_open (node_at rs)) (λ t. let h = open_sound (node_at rs) (in_range rs C) (outside rs C) t in f h.0 h.1))
+    ∙ rw (no_loops rs C L, no_heavy rs C L O, no_true (is_free_at_start (node_at rs)) (λ t. let h = open_sound (node_at rs) (in_range rs C) (outside rs C) t in f h.0 h.1))

@@ -1,5 +1,5 @@
 -- Under entries an event is of the types that its entries derive.
-use Rattle.std.proofs.Common.{◌≡◌, ℕ, ◌<◌, ◌≤◌, Bool, true, false, ltb, leb, sym, refl, ap, ◌∙◌, ⊎_elim, arith}
+use Rattle.std.proofs.Common.{◌≡◌, ℕ, ◌≤◌, false, leb, sym, ap, ◌∙◌, ⊎_elim, arith}
 use Rattle.std.proofs.lemmas.Bool.{cases_lt, lt-ltb, le-ltb, lt-leb, and_right}
 use Rattle.events.specs.declared.types.TypeSet.{TypeSet}
 use Rattle.events.specs.declared.derived.Entries.{Entries}

@@ -1,5 +1,5 @@
 -- What an event means, and what a query answers of that.
-use Rattle.std.specs.Prelude.{ℕ, zero, suc, Some, None, Option, nat_eq}
+use Rattle.std.specs.Prelude.{ℕ, zero, suc, None, Option, nat_eq}
 use Rattle.events.specs.declared.meaning.Meaning.{Meaning}
 use Rattle.events.specs.declared.fields.Fields.{Fields}
 use Rattle.events.specs.Types.{those}

@@ -1,5 +1,5 @@
 -- A set of types has just the types that were put in.
-use Rattle.std.specs.Prelude.{◌≡◌, ℕ, zero, suc, ◌+◌, ◌-◌, ◌*◌, ◌/◌, ◌%◌, ◌^◌, ◌<◌, ◌≤◌, Bool, true, false, cond, ◌&&◌, ◌⊎◌, ◌==◌, nat_eq, nat_lt, refl}
+use Rattle.std.specs.Prelude.{◌≡◌, ℕ, zero, suc, ◌+◌, ◌-◌, ◌*◌, ◌/◌, ◌%◌, ◌^◌, ◌<◌, ◌≤◌, Bool, true, false, cond, ◌&&◌, ◌==◌, nat_eq, nat_lt, refl}
 use Rattle.std.proofs.Common.{sym, ap, subst, ◌∙◌, inl, inr, add-one, eq-or-lt_of_le, add-zero, mod-eq_of_lt, arith, pow-add, pow_pos, ltb-true}
 use Rattle.std.proofs.Math.Nat.{two-pow-succ, add-mul-div_right, add-mul-mod_self_right, mod-one}
 use Rattle.std.proofs.lemmas.Nat.{shr_high, mod-pow-add}

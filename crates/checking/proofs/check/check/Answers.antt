@@ -21,22 +21,18 @@ invariant_of-made c =
     let j = c.in-Ok-assess.ensures in
     let b : length l ≤ 128 = omega arith in
     let G = all_ranged l ns q b in
-    let B = beyond l ns q b in (
-      omega arith,
-      (
-        b,
-        (
-          all_inside l ns q,
-          (
-            made_loopless (node ns) G B _ _ j.1 j.0,
-            (
-              made_light (node ns) G B _ _ j.1 j.0,
-              (made_falls (node ns) G B _ _ j.1 j.0, (made_named (node ns) G B _ _ j.1 j.0, (made_carried (node ns) G B _ _ j.1 j.0, (made_closed (node ns) G B _ _ j.1 j.0, tt)))),
-            ),
-          ),
-        ),
-      ),
-    )
+    let B = beyond l ns q b in
+    record {
+      some = omega arith;
+      most = b;
+      ranged = all_inside l ns q;
+      loopless = made_loopless (node ns) G B _ _ j.1 j.0;
+      light = made_light (node ns) G B _ _ j.1 j.0;
+      falls = made_falls (node ns) G B _ _ j.1 j.0;
+      named = made_named (node ns) G B _ _ j.1 j.0;
+      carried = made_carried (node ns) G B _ _ j.1 j.0;
+      closed = made_closed (node ns) G B _ _ j.1 j.0;
+    }
 
 -- what it answers is what it should, so that this answer fits, and no other
 fits : (l : List NodeRecord) (r : Result (Unit {0}) CheckFault) → r ≡ answer_of l → Says l r

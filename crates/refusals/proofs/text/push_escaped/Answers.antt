@@ -1,4 +1,4 @@
-use Rattle.std.proofs.Common.{◌≡◌, ℕ, ◌/◌, ◌%◌, ◌<◌, List, [], ◌∷◌, ◌++◌, string_bytes, sym, ap, ◌∙◌, arith, rules}
+use Rattle.std.proofs.Common.{◌≡◌, ◌/◌, ◌%◌, ◌<◌, [], ◌∷◌, ◌++◌, string_bytes, sym, ap, ◌∙◌, arith}
 use Rattle.refusals.specs.Text.{hex_digit}
 use Rattle.refusals.proofs.Escapes.{hex_ascii, escaped_hex}
 use Rattle.refusals.proofs.text.push_escaped.Goals as goal

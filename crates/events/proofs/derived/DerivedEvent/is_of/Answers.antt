@@ -1,4 +1,4 @@
-use Rattle.std.proofs.Common.{not, ap, ◌∙◌, rules}
+use Rattle.std.proofs.Common.{not, ap, ◌∙◌}
 use Rattle.events.specs.Types.{is_empty}
 use Rattle.events.proofs.Deriving.{derived_at}
 use Rattle.events.proofs.derived.DerivedEvent.is_of.Goals as goal

@@ -1,4 +1,4 @@
-use Rattle.std.proofs.Common.{eqb, arith, rules}
+use Rattle.std.proofs.Common.{eqb, arith}
 use Rattle.std.proofs.lemmas.Bool.Decides.{nat_tests}
 use Rattle.events.specs.Sets.{has_those}
 use Rattle.events.proofs.fields.Fields.is_of.Goals as goal
