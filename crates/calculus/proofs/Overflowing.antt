@@ -3,7 +3,6 @@ use Rattle.std.proofs.Common.{◌≡◌, ◌+◌, ◌<◌, ◌≤◌, Bool, true
 use Rattle.std.proofs.lemmas.Bool.{or_cases, or_left, or_right, ltb-true, lt-ltb, or_parts, ltb-false}
 use borrow.Author.Tests.{clash}
 use Rattle.calculus.specs.Vocabulary.{Meaning}
-use Rattle.calculus.specs.Numbers.{over}
 use Rattle.calculus.specs.Graphs.{Graph, WellFormed}
 use Rattle.calculus.specs.States.{cells, State}
 use Rattle.calculus.specs.Steps.{Outcome}

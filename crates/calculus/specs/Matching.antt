@@ -1,5 +1,5 @@
 -- When an event matches a pattern: under chosen numbers, and under settled ones, which yields a binding of the others.
-use Rattle.std.specs.Prelude.{◌≡◌, ℕ, ◌^◌, ◌<◌, Bool, true, false, cond, List, [], ◌∷◌, is_some, ◌==◌}
+use Rattle.std.specs.Prelude.{◌≡◌, ℕ, ◌^◌, ◌<◌, Bool, true, cond, List, [], ◌∷◌, is_some, ◌==◌}
 use Rattle.calculus.specs.Vocabulary.{Option, None, Some, Slot, Any, Constant, Variable, Pattern, Node, Empty, Prefix, Pair, Binder, Filter, Substitution, Meaning, has}
 use Rattle.calculus.specs.Numbers.{Choice, lookup, or_else, assign, no_numbers}
 
