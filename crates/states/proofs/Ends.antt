@@ -1,5 +1,5 @@
 -- A node may end just as its kind says of its children, whatever depth above the rank bounds the recursion.
-use Rattle.std.proofs.Common.{◌≡◌, ℕ, zero, suc, ◌<◌, Bool, true, false, sym, refl, ap, ◌∙◌, ap₂, arith}
+use Rattle.std.proofs.Common.{◌≡◌, ℕ, zero, suc, ◌<◌, Bool, sym, refl, ap, ◌∙◌, ap₂, arith}
 use Rattle.calculus.specs.Vocabulary.{Binder, Empty, Filter, Node, Op, Pair, Pattern, Prefix, Rule, Var}
 use Rattle.calculus.specs.Graphs.{Graph, graph_of, WellFormed, WellFormedAt}
 use Rattle.calculus.specs.States.{node_ends, pair_ends}
