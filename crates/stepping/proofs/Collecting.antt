@@ -1,5 +1,5 @@
 -- Collecting outcomes in a new list.
-use Rattle.std.proofs.Common.{◌≡◌, ℕ, ◌+◌, ◌<◌, ◌≤◌, true, false, List, [], ◌∷◌, ◌++◌, length, get_or, drop, IsErrAnd, Ok, Err, Result, Vec, sym, refl, ap, ◌∙◌, subst}
+use Rattle.std.proofs.Common.{◌≡◌, ℕ, ◌+◌, ◌<◌, ◌≤◌, false, List, [], ◌∷◌, ◌++◌, length, get_or, drop, IsErrAnd, Ok, Err, Result, Vec, sym, ap, ◌∙◌, subst}
 use Rattle.std.proofs.lemmas.List.{drop_more, drop_all}
 use Rattle.std.specs.declared.alloc.Global.{Global}
 use Rattle.calculus.specs.Equality.{same_outcome}
@@ -10,7 +10,7 @@ use Rattle.calculus.specs.Fullness.{overflowing}
 use Rattle.stepping.specs.declared.fault.StepFault.{StepFault}
 use Rattle.stepping.specs.declared.outcome.Outcome.{Outcome}
 use Rattle.stepping.specs.Listed.{outcome_of, outcomes_of}
-use Rattle.stepping.specs.Adding.{Says, AddsOutcomes, Collects}
+use Rattle.stepping.specs.Adding.{Says, Collects}
 use Rattle.stepping.proofs.Growing.{Runs, says_more, too_large}
 use Rattle.stepping.proofs.Overflow.{overflow_kept}
 

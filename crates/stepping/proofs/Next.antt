@@ -1,5 +1,5 @@
 -- The states to hold next, held state by held state.
-use Rattle.std.proofs.Common.{◌≡◌, ℕ, ◌+◌, ◌<◌, ◌≤◌, Bool, true, false, cond, ◌||◌, ltb, List, [], ◌∷◌, ◌++◌, length, get_or, drop, IsErrAnd, Ok, Err, vec_items, Decides, Result, Vec, sym, refl, ap, ◌∙◌, subst, ap₂, arith, length-append, ltb-true, le-ltb, lt-ltb}
+use Rattle.std.proofs.Common.{◌≡◌, ℕ, ◌+◌, ◌<◌, ◌≤◌, Bool, true, false, cond, ◌||◌, List, [], ◌∷◌, ◌++◌, length, get_or, drop, IsErrAnd, Ok, Err, vec_items, Decides, Result, Vec, sym, refl, ap, ◌∙◌, subst, ap₂, arith, length-append, ltb-true, le-ltb, lt-ltb}
 use Rattle.std.specs.declared.alloc.Global.{Global}
 use Rattle.std.proofs.lemmas.List.{drop_more, drop_all}
 use Rattle.calculus.specs.Vocabulary.{Meaning, Rule}
@@ -7,7 +7,7 @@ use Rattle.calculus.specs.Graphs.{Graph, graph_of}
 use Rattle.calculus.specs.States.{State, may_end}
 use Rattle.calculus.specs.Equality.{same_state}
 use Rattle.calculus.specs.Lists.{gather, member, once}
-use Rattle.calculus.specs.Outcomes.{after, outcomes}
+use Rattle.calculus.specs.Outcomes.{after}
 use Rattle.calculus.specs.Steps.{Outcome as Out}
 use Rattle.calculus.specs.Fullness.{any_full, full, refuses}
 use Rattle.calculus.specs.Runs.{any_ends}

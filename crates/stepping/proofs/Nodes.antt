@@ -1,5 +1,5 @@
 -- From what the calls gave to the step of a leaf, by the kind of its node.
-use Rattle.std.proofs.Common.{◌≡◌, ℕ, suc, Bool, true, false, ◌&&◌, List, [], ◌∷◌, Ok, vec_items, Vec, sym, refl, ap, ◌∙◌}
+use Rattle.std.proofs.Common.{◌≡◌, ℕ, suc, Bool, true, false, ◌&&◌, List, [], ◌∷◌, Ok, vec_items, Vec, sym, ap, ◌∙◌}
 use Rattle.std.specs.declared.alloc.Global.{Global}
 use Rattle.calculus.specs.Vocabulary.{Binder, Empty, Filter, Meaning, Node, None, Op, Option, Pair, Pattern, Prefix, Rule, Some, Substitution, Var}
 use Rattle.calculus.specs.Numbers.{no_numbers, without}

@@ -1,4 +1,4 @@
-use Rattle.std.proofs.Common.{◌≡◌, List, [], ◌∷◌, sym, ap, ◌∙◌}
+use Rattle.std.proofs.Common.{List, [], ◌∷◌, sym, ap, ◌∙◌}
 use Rattle.std.specs.Vec.Iter.{into_iter_items}
 use Rattle.calculus.specs.Equality.{same_outcome}
 use Rattle.calculus.specs.Lists.{gather}
@@ -16,11 +16,11 @@ pub returns-in_err-add : goal.returns-in_err-add
 returns-in_err-add c =
     let g : List Outcome → List Out = λ l. gather (outcomes_under_binder (graph_of c.args.rule.now) c.args.v) (outcomes_of l) in
     stops same_outcome overflowing overflow_kept (outcome_of c.in_ok-o.o ∷ []) (g (into_iter_items c.next.new.self)) _ c.from_residual-in_err-add.result c.in_err-add.field-0.0
-    (ap g c.into_iter-p-iterator.ensures.into_iter-gives.0)
+    (ap g c.into_iter-p-iterator.ensures.into_iter_gives.0)
     (ap g c.in-Some.ensures.steps.0 ∙ ap (λ (x : Out). x ∷ g (into_iter_items c.next.new.self)) (sym c.in_ok-o.ensures)) c.loop-p.invariant c.in_err-add.ensures
     c.from_residual-in_err-add.ensures.1
 
 pub returns : goal.returns
 returns c =
     let g : List Outcome → List Out = λ l. gather (outcomes_under_binder (graph_of c.args.rule.now) c.args.v) (outcomes_of l) in
-    done same_outcome overflowing (ap g c.into_iter-p-iterator.ensures.into_iter-gives.0) (ap g (none_left c.loop-p.p-iterator c.in-None.ensures.steps.0)) c.loop-p.invariant
+    done same_outcome overflowing (ap g c.into_iter-p-iterator.ensures.into_iter_gives.0) (ap g (none_left c.loop-p.p-iterator c.in-None.ensures.steps.0)) c.loop-p.invariant

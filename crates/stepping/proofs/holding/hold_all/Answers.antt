@@ -1,4 +1,4 @@
-use Rattle.std.proofs.Common.{◌≡◌, List, [], ◌∷◌, ap}
+use Rattle.std.proofs.Common.{List, [], ◌∷◌, ap}
 use Rattle.std.specs.Vec.Iter.{into_iter_items}
 use Rattle.calculus.specs.States.{State}
 use Rattle.calculus.specs.Equality.{same_state}
@@ -15,9 +15,9 @@ pub returns-in_err-hold : goal.returns-in_err-hold
 returns-in_err-hold c =
     let g : List Outcome → List State = λ l. gather state_of (outcomes_of l) in
     stops same_state too_many many_kept (state c.in-Some.o.tree ∷ []) (g (into_iter_items c.next.new.self)) _ c.from_residual.result c.in_err-hold.field-0.0
-    (ap g c.into_iter-o-iterator.ensures.into_iter-gives.0) (ap g c.in-Some.ensures.steps.0) c.loop-o.invariant c.in_err-hold.ensures c.from_residual.ensures.1
+    (ap g c.into_iter-o-iterator.ensures.into_iter_gives.0) (ap g c.in-Some.ensures.steps.0) c.loop-o.invariant c.in_err-hold.ensures c.from_residual.ensures.1
 
 pub returns : goal.returns
 returns c =
     let g : List Outcome → List State = λ l. gather state_of (outcomes_of l) in
-    done same_state too_many (ap g c.into_iter-o-iterator.ensures.into_iter-gives.0) (ap g (none_left c.loop-o.o-iterator c.in-None.ensures.steps.0)) c.loop-o.invariant
+    done same_state too_many (ap g c.into_iter-o-iterator.ensures.into_iter_gives.0) (ap g (none_left c.loop-o.o-iterator c.in-None.ensures.steps.0)) c.loop-o.invariant
