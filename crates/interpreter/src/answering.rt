@@ -140,7 +140,7 @@ impl Interpreter {
 
     // Shows an event of any kind.
     fn show<E: Event>(&mut self, heap: Global, event: &E) -> Result<Reply, AllocError>
-        ensures { MatchResult result (λ y. Showing self.old (meaning event.now) self.new (told_by y)) (λ _. self.new ≡ self.old) }
+        ensures { MatchResult result (λ y. Showing self.old (E.meaning event.now) self.new (told_by y)) (λ _. self.new ≡ self.old) }
     {
         match self.monitor.show(heap, event) {
             Ok(()) => Ok(Reply::Shown),

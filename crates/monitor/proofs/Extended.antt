@@ -1,5 +1,5 @@
 -- Showing an event, from what stepping answers.
-use Rattle.std.proofs.Common.{◌≡◌, ℕ, suc, ◌+◌, ◌<◌, ◌≤◌, List, [], ◌∷◌, ◌++◌, length, IsErrAnd, Ok, Err, vec_items, Result, Vec, sym, refl, ap, ◌∙◌, subst, add-zero, add-one, arith}
+use Rattle.std.proofs.Common.{◌≡◌, ℕ, ◌+◌, ◌<◌, ◌≤◌, List, [], ◌∷◌, ◌++◌, length, IsErrAnd, Ok, Err, vec_items, Result, Vec, sym, refl, ap, ◌∙◌, subst, add-zero, add-one, arith}
 use borrow.Author.Tests.{clash}
 use Rattle.std.specs.declared.alloc.Global.{Global}
 use Rattle.calculus.specs.Vocabulary.{Rule, Meaning}
@@ -22,7 +22,7 @@ use Rattle.monitor.specs.Faults.{turned}
 use Rattle.monitor.specs.declared.Monitor.{Monitor}
 use Rattle.monitor.specs.declared.fault.ShowFault.{ShowFault}
 use Rattle.monitor.specs.declared.fault.ShowFault.TheVariants.{Limit, Full, Memory}
-use Rattle.monitor.specs.Uses.{Call, shows, gain, run_of, Shown, Shows, Does, is_shown, at_the_limit, is_full, out_of_memory, Made, one_more, Use, asks_verdict, answers_verdict, verdict_of, events_in, Judged}
+use Rattle.monitor.specs.Uses.{Call, shows, gain, run_of, Shown, Shows, is_shown, at_the_limit, is_full, out_of_memory, Made, one_more, Use, asks_verdict, answers_verdict, verdict_of, events_in, Judged}
 
 -- what a show did, as one call more of a use
 pub one_show : (e : Meaning) (m n : Monitor) (r : Result (Unit {0}) ShowFault) → (m.shown < 1000000 → Proper e) → Shows e m n r → (cs : List Call) → Use m cs → Use n (cs ++ (shows e r ∷ []))

@@ -35,8 +35,8 @@ impl Monitor {
     // Shows an event of any kind: it is queried once for each type and slot, and the states step at the answers. A refusal leaves
     // the monitor as it was; at the limit the event is not even queried.
     pub fn show<E: Event>(&mut self, heap: Global, event: &E) -> Result<(), ShowFault>
-        ensures shows { Shows (meaning event.now) self.old self.new result }
-        ensures uses { (cs : List Call) → Use self.old cs → Use self.new (cs ++ (shows (meaning event.now) result ∷ [])) }
+        ensures shows { Shows (E.meaning event.now) self.old self.new result }
+        ensures uses { (cs : List Call) → Use self.old cs → Use self.new (cs ++ (shows (E.meaning event.now) result ∷ [])) }
     {
         if self.shown >= MOST_SHOWN {
             return Err(ShowFault::Limit);
@@ -75,7 +75,7 @@ fn gained(next: &Vec<Tree>) -> u32
 
 // What an event of any kind answers: its meaning.
 fn asked<E: Event>(event: &E) -> Meaning
-    ensures same { result ≡ meaning event.now }
+    ensures same { result ≡ E.meaning event.now }
     ensures proper { Proper result }
 {
     proper(noted(event))

@@ -1,4 +1,4 @@
-use Rattle.std.proofs.Common.{vec_items, refl, arith, rules}
+use Rattle.std.proofs.Common.{vec_items, refl, arith}
 use Rattle.stepping.specs.Listed.{states}
 use Rattle.monitor.specs.Uses.{run_of}
 use Rattle.monitor.proofs.Extended.{gain_one, moved}

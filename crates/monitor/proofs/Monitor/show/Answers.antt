@@ -1,4 +1,4 @@
-use Rattle.std.proofs.Common.{◌≡◌, Ok, Err, refl, arith, rules}
+use Rattle.std.proofs.Common.{Ok, Err, refl, arith}
 use Rattle.monitor.specs.declared.fault.ShowFault.TheVariants.{Limit}
 use Rattle.monitor.specs.Uses.{Shows}
 use Rattle.monitor.proofs.Extended.{one_show, as_shown, taken_in, refused_by}
