@@ -1,4 +1,4 @@
-use Rattle.std.proofs.Common.{◌≡◌, ◌+◌, ◌-◌, length, sym, refl, ap, ◌∙◌, arith, rules}
+use Rattle.std.proofs.Common.{◌+◌, ◌-◌, length, refl, ◌∙◌, arith}
 use Rattle.std.proofs.lemmas.Slice.{put_mid-paste}
 use Rattle.reporting.proofs.Pasted.{over_paste}
 use Rattle.reporting.proofs.report.put.Goals as goal

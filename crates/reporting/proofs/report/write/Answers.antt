@@ -1,4 +1,4 @@
-use Rattle.std.proofs.Common.{◌≡◌, [], ◌∷◌, length, codes, decimal, ap, ◌∙◌, arith, rules}
+use Rattle.std.proofs.Common.{◌≡◌, [], ◌∷◌, length, codes, decimal, ap, ◌∙◌, arith}
 use Rattle.reporting.specs.Text.{word_of}
 use Rattle.reporting.proofs.Lengths.{few}
 use Rattle.reporting.proofs.Pasted.{on, first, regrouped, counted}
