@@ -1,5 +1,5 @@
 -- A line that was read has a type of a line.
-use Rattle.std.proofs.Common.{◌≡◌, ℕ, ◌≤◌, Bool, true, false, cond, eqb, leb, List, [], ◌∷◌, take, drop, IfSome, IfOk, Some, None, Ok, Err, Option, Result, sym, refl, ap, ◌∙◌, arith}
+use Rattle.std.proofs.Common.{◌≡◌, ℕ, ◌≤◌, Bool, true, false, cond, eqb, leb, List, [], ◌∷◌, take, drop, IfSome, IfOk, Some, None, Ok, Err, Option, Result, refl, ◌∙◌, arith}
 use Rattle.std.proofs.lemmas.Bool.{leb-true}
 use Rattle.events.specs.declared.fields.Fields.{Fields}
 use Rattle.lines.specs.declared.fault.WordFault.{WordFault}
@@ -7,12 +7,10 @@ use Rattle.lines.specs.declared.fault.Cause.TheVariants.{TooLarge}
 use Rattle.lines.specs.declared.line.Line.{Line}
 use Rattle.lines.specs.declared.log.LogLine.{LogLine}
 use Rattle.lines.specs.declared.fault.LineFault.{LineFault}
-use Rattle.lines.specs.declared.fault.LogFault.{LogFault}
 use Rattle.lines.specs.Numerals.{within, value}
 use Rattle.lines.specs.Pieces.{Piece, before}
 use Rattle.refusals.specs.Options.{on}
-use Rattle.lines.specs.Lines.{space, fault_of, or_refuse, puts_number, puts, through, bare, other_words, form_of, numbers_of, formed_first, line_of, type_word}
-use Rattle.lines.specs.Lines.{made as Line-made}
+use Rattle.lines.specs.Lines.{space, fault_of, or_refuse, puts, through, bare, other_words, form_of, numbers_of, formed_first, line_of, type_word}
 use Rattle.lines.specs.Logs.{of_log, log_line_of}
 
 -- a slot is filled, and the type stays

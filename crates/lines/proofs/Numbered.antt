@@ -1,5 +1,5 @@
 -- The lines of a log, one after the other.
-use Rattle.std.proofs.Common.{◌≡◌, ℕ, suc, ◌+◌, ◌-◌, ◌<◌, ◌≤◌, Bool, true, false, cond, eqb, List, [], ◌∷◌, length, Some, None, Option, unwrap_or, sym, refl, ap, ◌∙◌, arith, Bor, MatchOption}
+use Rattle.std.proofs.Common.{◌≡◌, ℕ, suc, ◌+◌, ◌-◌, ◌<◌, ◌≤◌, Bool, true, false, cond, eqb, List, [], ◌∷◌, length, Some, None, Option, unwrap_or, refl, ap, ◌∙◌, arith, Bor, MatchOption}
 use Rattle.std.specs.Option.{option_map}
 use Rattle.std.proofs.lemmas.List.{nil_from_length}
 use Rattle.lines.specs.declared.log.LogLine.{LogLine}
@@ -55,9 +55,9 @@ next_line at n xs p ys o h e f g q = lines_first at n xs h ∙ rw (← e, ← f,
         let d : at + length p + 1 ≡ at + (length xs - length zs) = omega arith in
         ap (λ k. record { span = record { at = at; len = length p }; number = n + 1 } ∷ lines_from k (n + 1) zs) d
 
-pub or_nil : (o : Option (Bor (List ℕ))) (d : Bor (List ℕ)) → d.now ≡ [] → (unwrap_or o d).now ≡ or_nil (option_map (λ x. x.now) o)
-or_nil None d e = e
-or_nil (Some r) d e = refl
+pub or_nil_now : (o : Option (Bor (List ℕ))) (d : Bor (List ℕ)) → d.now ≡ [] → (unwrap_or o d).now ≡ or_nil (option_map (λ x. x.now) o)
+or_nil_now None d e = e
+or_nil_now (Some r) d e = refl
 
 pub cases_now : (o : Option (Bor (List ℕ))) (P : Type 0) (Q : List ℕ → Type 0) → MatchOption o P (λ x. Q x.now) → MatchOption (option_map (λ x. x.now) o) P Q
 cases_now None P Q h = h

@@ -1,10 +1,10 @@
 -- Numbers as they are written, and words between spaces.
-use Rattle.std.proofs.Common.{◌≡◌, ℕ, ◌+◌, ◌^◌, ◌<◌, ◌≤◌, Bool, true, false, cond, not, ◌&&◌, eqb, leb, List, [], ◌∷◌, ◌++◌, length, get_or, Some, None, decimal, Option, sym, refl, ap, ◌∙◌, subst, ⊎_elim, append-nil, arith, rules}
+use Rattle.std.proofs.Common.{◌≡◌, ℕ, ◌+◌, ◌^◌, ◌<◌, ◌≤◌, Bool, true, false, cond, not, eqb, leb, List, [], ◌∷◌, ◌++◌, length, get_or, Some, None, decimal, Option, sym, refl, ap, ◌∙◌, subst, ⊎_elim, append-nil, arith, rules}
 use Rattle.std.proofs.lemmas.Str.Parse.{IsNumeralModel, numerals_by_fold}
 use Rattle.std.proofs.lemmas.Fmt.{decimal_digit, decimal_nonempty, first_decimal, digits_decimal, digits_value-decimal, decimal-digits_value}
 use Rattle.std.proofs.lemmas.Bool.{and_parts, and_from, not-true, not_from_false, eqb-true, eqb-false, ne_eqb, le-leb, leb-true, cases_eq}
 use Rattle.lines.specs.Numerals.{is_digit, all_digits, is_well_formed, value_from, value, within}
-use Rattle.lines.specs.Pieces.{Piece, before, after, longer, pieces, placed}
+use Rattle.lines.specs.Pieces.{before, after, longer, pieces, placed}
 use Rattle.lines.specs.Lines.{space, field_words, other_words}
 use Rattle.lines.specs.Text.{spaced}
 use Rattle.lines.proofs.Cuts.{following, pieces_first}

@@ -1,7 +1,7 @@
 -- Words that are taken one after the other.
-use Rattle.std.proofs.Common.{◌≡◌, ℕ, ◌+◌, List, [], ◌∷◌, length, Some, None, Ok, Err, Option, sym, refl, ap, ◌∙◌}
+use Rattle.std.proofs.Common.{◌≡◌, ℕ, ◌+◌, List, ◌∷◌, length, Some, None, Err, Option, sym, refl, ap, ◌∙◌}
 use Rattle.lines.specs.declared.fault.Cause.{Cause}
-use Rattle.lines.specs.Pieces.{before, after, pieces, placed}
+use Rattle.lines.specs.Pieces.{before, after, placed}
 use Rattle.lines.specs.Lines.{space, field_words, fault_of, or_refuse, through}
 use Rattle.lines.proofs.Cuts.{following, pieces_first}
 

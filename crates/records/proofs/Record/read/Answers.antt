@@ -1,4 +1,4 @@
-use Rattle.std.proofs.Common.{◌≡◌, Some, None, Ok, Err, sym, ap, ◌∙◌, arith, rules}
+use Rattle.std.proofs.Common.{◌≡◌, Ok, Err, ap, arith}
 use Rattle.records.specs.Records.{or_bad, record_of}
 use Rattle.records.proofs.Exact.{exactly_at}
 use Rattle.records.proofs.Record.read.Goals as goal
