@@ -1,5 +1,5 @@
 -- The lines of a log, one after the other, and what is told at the end.
-use Rattle.std.proofs.Common.{◌≡◌, ℕ, ◌+◌, ◌<◌, ◌≤◌, List, [], ◌∷◌, ◌++◌, length, IsErrAnd, Some, None, Ok, Err, Option, Result, sym, refl, ap, ◌∙◌, subst, arith}
+use Rattle.std.proofs.Common.{◌≡◌, ℕ, ◌+◌, ◌<◌, ◌≤◌, List, [], ◌∷◌, ◌++◌, length, IsErrAnd, Some, None, Ok, Err, Option, Result, sym, subst, arith}
 use Rattle.std.proofs.lemmas.List.{length-append}
 use Rattle.events.specs.declared.derived.Entries.{Entries}
 use Rattle.lines.specs.declared.log.LogLine.{LogLine}

@@ -1,5 +1,5 @@
 -- There is one judgement of a log, where memory suffices.
-use Rattle.std.proofs.Common.{◌≡◌, ℕ, ◌<◌, ◌≤◌, ◌↔◌, List, [], ◌∷◌, ◌++◌, length, Some, None, Ok, Err, Option, sym, refl, ap, ◌∙◌, subst, arith}
+use Rattle.std.proofs.Common.{◌≡◌, ℕ, ◌≤◌, List, [], ◌∷◌, ◌++◌, Some, Ok, Option, sym, refl, ap, ◌∙◌, subst, arith}
 use Rattle.events.specs.declared.derived.Entries.{Entries}
 use Rattle.lines.specs.declared.line.Line.{Line}
 use Rattle.lines.specs.declared.log.LogLine.{LogLine}
@@ -11,7 +11,7 @@ use Rattle.calculus.specs.declared.verdict.Verdict.TheVariants.{Broken, MayEnd, 
 use Rattle.monitor.specs.declared.Counts.{Counts}
 use Rattle.monitor.specs.Uses.{Counted, Judged}
 use Rattle.judging.specs.declared.fault.JudgeFault.{JudgeFault}
-use Rattle.judging.specs.declared.fault.JudgeFault.TheVariants.{TooLong, BadLine, Full}
+use Rattle.judging.specs.declared.fault.JudgeFault.TheVariants.{BadLine}
 use Rattle.judging.specs.declared.judgement.Judgement.{Judgement}
 use Rattle.judging.specs.Judging.{event_of, FullAfter, Goes, at_the_end, at_a_bad_line, where_full, out_of_memory, one_more, Stops, too_long, line_by_line, Judges, Sufficed, Alone}
 

@@ -1,5 +1,5 @@
 -- A monitor that is shown one line of a log.
-use Rattle.std.proofs.Common.{◌≡◌, ℕ, ◌<◌, ◌≤◌, List, [], ◌∷◌, ◌++◌, length, IsErrAnd, Some, None, Ok, Err, Option, Result, sym, refl, ap, ◌∙◌, subst}
+use Rattle.std.proofs.Common.{◌≡◌, ℕ, List, [], ◌∷◌, ◌++◌, length, IsErrAnd, Ok, Err, Result, sym, refl, ap, ◌∙◌, subst}
 use Rattle.events.specs.declared.derived.Entries.{Entries}
 use Rattle.events.specs.declared.derived.Derived.{Derived}
 use Rattle.events.specs.Meanings.{single}
@@ -15,11 +15,11 @@ use Rattle.calculus.specs.Runs.{Run, begin, run}
 use Rattle.monitor.specs.declared.Monitor.{Monitor}
 use Rattle.monitor.specs.declared.fault.ShowFault.{ShowFault}
 use Rattle.monitor.specs.declared.fault.ShowFault.TheVariants.{Full as TooFull, Memory as NoMemory}
-use Rattle.monitor.specs.Uses.{Call, shows, run_of, Begins, Shown, Shows, Made, begun, Use, events_in, counts_of, verdict_of, Counted, Judged}
+use Rattle.monitor.specs.Uses.{Call, shows, run_of, Shown, Shows, Made, begun, Use}
 use Rattle.monitor.proofs.Kept.{any_use, led, events_more}
 use Rattle.judging.specs.declared.fault.JudgeFault.{JudgeFault}
 use Rattle.judging.specs.declared.fault.JudgeFault.TheVariants.{BadLine, Full, Memory}
-use Rattle.judging.specs.Judging.{event_of, FullAfter, Goes, at_a_bad_line, where_full, out_of_memory}
+use Rattle.judging.specs.Judging.{event_of, FullAfter, at_a_bad_line, where_full, out_of_memory}
 use Rattle.judging.specs.Watching.{Watches, Further, Passes}
 
 -- what a derived event over a line means

@@ -9,7 +9,6 @@ use Rattle.lines.specs.declared.fault.LogFault.{LogFault}
 use Rattle.lines.specs.Logs.{lines_of, log_line_of}
 use Rattle.calculus.specs.Vocabulary.{Rule, Meaning}
 use Rattle.calculus.specs.Graphs.{graph_of}
-use Rattle.calculus.specs.States.{State}
 use Rattle.calculus.specs.Visited.{Full as Overfull}
 use Rattle.calculus.specs.Runs.{begin, run}
 use Rattle.monitor.specs.Uses.{Counted, Judged}

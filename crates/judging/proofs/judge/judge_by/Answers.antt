@@ -1,4 +1,4 @@
-use Rattle.std.proofs.Common.{arith, rules}
+use Rattle.std.proofs.Common.{arith}
 use Rattle.calculus.specs.Vocabulary.{Rule}
 use Rattle.monitor.specs.Uses.{Begins}
 use Rattle.judging.proofs.Lines.{refused_whole, judged_so}

@@ -1,4 +1,3 @@
-use Rattle.std.proofs.Common.{rules}
 use Rattle.judging.proofs.Watched.{goes_further, stops_full, stops_without_memory, stops_at}
 use Rattle.judging.proofs.judge.show_line.Goals as goal
 

@@ -1,4 +1,4 @@
-use Rattle.std.proofs.Common.{length, ap, arith, rules}
+use Rattle.std.proofs.Common.{length, ap, arith}
 use Rattle.lines.specs.Logs.{left}
 use Rattle.lines.proofs.Numbered.{first_line}
 use Rattle.judging.proofs.Lines.{before, next_line, room, again, stopped, ended}
