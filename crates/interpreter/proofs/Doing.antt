@@ -1,5 +1,5 @@
 -- What commands do, from what the calls below them answer.
-use Rattle.std.proofs.Common.{◌≡◌, ℕ, List, Some, None, Ok, Err, Option, Result, sym, refl, ap, ◌∙◌, subst, MatchResult}
+use Rattle.std.proofs.Common.{◌≡◌, ℕ, List, Some, None, Ok, Err, Option, Result, sym, ◌∙◌, subst, MatchResult}
 use Rattle.std.specs.declared.alloc.AllocError.{AllocError}
 use Rattle.refusals.specs.declared.Refusal.{Refusal}
 use Rattle.events.specs.declared.meaning.Meaning.{Meaning}

@@ -1,9 +1,9 @@
 -- Sizes that a loop lists, and sizes in rising order.
-use Rattle.std.proofs.Common.{◌≡◌, ℕ, ◌+◌, ◌<◌, ◌≤◌, List, [], ◌∷◌, ◌++◌, length, get_or, drop, sym, refl, ap, ◌∙◌, subst, append_assoc, append-nil, arith}
+use Rattle.std.proofs.Common.{◌≡◌, ℕ, ◌+◌, ◌<◌, ◌≤◌, List, [], ◌∷◌, ◌++◌, length, get_or, drop, sym, ap, ◌∙◌, subst, append_assoc, append-nil}
 use Rattle.std.proofs.lemmas.List.{drop_more, drop_all}
 use Rattle.std.proofs.lemmas.List.Sorted.{IsNonDecreasingBy-from_sort}
-use Rattle.std.specs.Ordering.{is_lt, nat_cmp}
-use Rattle.std.specs.List.Sorted.{IsPermutation, IsSortedWithin}
+use Rattle.std.specs.Ordering.{nat_cmp}
+use Rattle.std.specs.List.Sorted.{IsPermutation, IsSorted}
 use Rattle.states.specs.declared.tree.Tree.{Tree}
 use Rattle.states.specs.State.{state}
 use Rattle.stepping.specs.Listed.{states}
@@ -22,5 +22,5 @@ pub sizes_all : (ts : List Tree) (i : ℕ) (xs whole : List ℕ) → length ts �
 sizes_all ts i xs whole h p = sym (append-nil xs) ∙ (ap (λ (zs : List Tree). xs ++ sizes_of (states zs)) (sym (drop_all i ts h)) ∙ p)
 
 -- what sorting gives
-pub sorted : (whole xs ys : List ℕ) (n : ℕ) → xs ≡ whole → IsPermutation xs ys → length ys ≡ n → IsSortedWithin (λ x y. is_lt (nat_cmp x y)) ys 0 n → Ordered whole ys
-sorted whole xs ys n e s l a = subst (λ (zs : List ℕ). Ordered zs ys) e (record { same = s; order = IsNonDecreasingBy-from_sort (λ x. x) ys n l a })
+pub sorted : (whole xs ys : List ℕ) → xs ≡ whole → IsPermutation xs ys → IsSorted nat_cmp ys → Ordered whole ys
+sorted whole xs ys e s a = subst (λ (zs : List ℕ). Ordered zs ys) e (record { same = s; order = IsNonDecreasingBy-from_sort (λ x. x) ys a })

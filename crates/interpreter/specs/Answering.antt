@@ -1,10 +1,9 @@
 -- What each command does, and what is answered.
-use Rattle.std.specs.Prelude.{◌≡◌, ℕ, min, List, Some, None, Ok, Err, Option, Result}
+use Rattle.std.specs.Prelude.{◌≡◌, ℕ, min, List, Some, None, Ok, Err, Option}
 use Rattle.refusals.specs.declared.Layer.{Layer}
 use Rattle.refusals.specs.declared.Span.{Span}
 use Rattle.refusals.specs.declared.Place.TheVariants.{Bytes}
 use Rattle.refusals.specs.declared.Refusal.{Refusal}
-use Rattle.events.specs.declared.derived.Entry.{Entry}
 use Rattle.events.specs.declared.meaning.Meaning.{Meaning}
 use Rattle.events.specs.Meanings.{single}
 use Rattle.events.specs.Derivation.{derived}

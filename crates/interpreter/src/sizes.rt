@@ -34,6 +34,6 @@ pub(crate) fn rising_sizes(heap: Global, trees: &[Tree]) -> Result<Vec<usize>, A
     ensures { IfOk result (λ v. Ordered (sizes_of (states trees.now)) v.items) }
 {
     let mut sizes = sizes_of(heap, trees)?;
-    sizes.sort();
+    sizes.sort_unstable();
     Ok(sizes)
 }

@@ -1,4 +1,4 @@
-use Rattle.std.proofs.Common.{sym, ap, ◌∙◌, rules}
+use Rattle.std.proofs.Common.{sym, ap, ◌∙◌}
 use Rattle.commands.specs.Said.{said_by, text_line, binary_record}
 use Rattle.interpreter.proofs.Doing.{done_so}
 use Rattle.interpreter.proofs.Interpreter.run.Goals as goal

@@ -1,4 +1,3 @@
-use Rattle.std.proofs.Common.{rules}
 use Rattle.interpreter.proofs.Doing.{shown_so, refused_so}
 use Rattle.interpreter.proofs.Interpreter.show.Goals as goal
 

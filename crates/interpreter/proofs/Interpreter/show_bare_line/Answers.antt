@@ -1,4 +1,3 @@
-use Rattle.std.proofs.Common.{rules}
 use Rattle.interpreter.proofs.Doing.{line_refused, line_shown}
 use Rattle.interpreter.proofs.Interpreter.show_bare_line.Goals as goal
 

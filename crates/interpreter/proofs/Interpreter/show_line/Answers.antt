@@ -1,4 +1,3 @@
-use Rattle.std.proofs.Common.{rules}
 use Rattle.events.specs.Derivation.{derived}
 use Rattle.interpreter.proofs.Doing.{line_refused, line_shown}
 use Rattle.interpreter.proofs.Interpreter.show_line.Goals as goal

@@ -1,4 +1,3 @@
-use Rattle.std.proofs.Common.{rules}
 use Rattle.events.specs.Derivation.{derived}
 use Rattle.interpreter.proofs.Doing.{record_refused, record_shown}
 use Rattle.interpreter.proofs.Interpreter.show_record.Goals as goal

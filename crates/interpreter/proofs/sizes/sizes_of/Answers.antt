@@ -1,4 +1,4 @@
-use Rattle.std.proofs.Common.{vec_items, ap, ◌∙◌, arith, rules}
+use Rattle.std.proofs.Common.{vec_items, ap, ◌∙◌, arith}
 use Rattle.states.specs.State.{state}
 use Rattle.stepping.specs.Listed.{states}
 use Rattle.interpreter.specs.Sizes.{size_of, sizes_of}

@@ -1,4 +1,4 @@
-use Rattle.std.proofs.Common.{string_bytes, arith, rules}
+use Rattle.std.proofs.Common.{string_bytes, arith}
 use Rattle.replies.specs.Text.{held_text}
 use Rattle.replies.proofs.Lists.{size_more, sizes_all}
 use Rattle.replies.proofs.text.held_text.Goals as goal

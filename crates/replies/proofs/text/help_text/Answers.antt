@@ -1,4 +1,4 @@
-use Rattle.std.proofs.Common.{string_bytes, refl, arith, rules}
+use Rattle.std.proofs.Common.{string_bytes, refl, arith}
 use Rattle.commands.specs.Forms.{forms}
 use Rattle.replies.specs.Text.{help_text}
 use Rattle.replies.proofs.Lists.{form_more}
