@@ -188,16 +188,19 @@ mod tests {
     fn excerpts(rt: HostRuntime) {
         let rule = b"rules";
         let log = b"a log";
-        assert_eq!(rt; excerpt(rule, log, &at(Layer::Reading, 2)), b"le");
+        assert_eq!(rt;
+            excerpt(rule, log, &at(Layer::Reading, 2)),
+            b"le".as_slice()
+        );
         assert_eq!(rt;
             excerpt(rule, log, &at(Layer::Reading, usize::MAX)),
-            b"les",
+            b"les".as_slice(),
             "cut off"
         );
-        assert_eq!(rt; excerpt(rule, log, &at(Layer::Word, 3)), b"log");
+        assert_eq!(rt; excerpt(rule, log, &at(Layer::Word, 3)), b"log".as_slice());
         assert_eq!(rt;
             excerpt(rule, b"", &at(Layer::Word, 3)),
-            b"",
+            b"".as_slice(),
             "past the end"
         );
         for layer in [
@@ -207,31 +210,31 @@ mod tests {
             Layer::Judging,
             Layer::Report,
         ] {
-            assert_eq!(rt; excerpt(rule, log, &at(layer, 3)), b"");
+            assert_eq!(rt; excerpt(rule, log, &at(layer, 3)), b"".as_slice());
         }
         let mut nowhere = at(Layer::Word, 3);
         nowhere.place = Place::Nowhere;
-        assert_eq!(rt; excerpt(rule, log, &nowhere), b"", "no place");
+        assert_eq!(rt; excerpt(rule, log, &nowhere), b"".as_slice(), "no place");
     }
 
     #[test]
     fn reports(rt: HostRuntime) {
         let mut buffer = [b'.'; 44];
         assert_eq!(rt; report(&mut buffer, 6, 5, Verdict::Broken).ok(), Some(23));
-        assert_eq!(rt; &buffer[0..25], b"shown 6 taken 5 broken\n..");
+        assert_eq!(rt; &buffer[0..25], b"shown 6 taken 5 broken\n..".as_slice());
         assert_eq!(rt;
             report(&mut buffer, u32::MAX, u32::MAX, Verdict::MayEnd).ok(),
             Some(42)
         );
         assert_eq!(rt;
             &buffer[0..44],
-            b"shown 4294967295 taken 4294967295 may end\n.."
+            b"shown 4294967295 taken 4294967295 may end\n..".as_slice()
         );
         let mut short = [b'.'; 41];
         assert!(rt; report(&mut short, 0, 0, Verdict::Open).is_err());
         assert_eq!(rt;
             &short[0..41],
-            &[b'.'; 41],
+            [b'.'; 41].as_slice(),
             "a refusal leaves the buffer as it was"
         );
     }
