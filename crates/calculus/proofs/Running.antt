@@ -90,17 +90,17 @@ module _ (G : Graph) (W : WellFormed G) where
   abbrev pub SomeAllows : List State → Choice → Mode → List Meaning → Type 0
   SomeAllows ts ρ m es = (t : State) × In t ts × Allows G t ρ m es
 
-  abbrev pub All-closed : List State → Type 0
-  All-closed ts = (t : State) → In t ts → Closed G t
+  abbrev pub AllClosed : List State → Type 0
+  AllClosed ts = (t : State) → In t ts → Closed G t
 
   closed_agrees : (e : Meaning) (t s : State) (β : Substitution) → Closed G t → Step G e t s β → (ρ : Choice) → Agrees β ρ
   closed_agrees e t s β c d ρ = agrees_any β (λ v k q. c v (free_bound G W e d v k q)) ρ
 
-  closed_after : (e : Meaning) (ts : List State) → All-closed ts → All-closed (after G e ts)
+  closed_after : (e : Meaning) (ts : List State) → AllClosed ts → AllClosed (after G e ts)
   closed_after e ts c s i v x =
       let p = after_out G e ts s i in c p.from p.is_held v (free_back G W e p.step v x)
 
-  any_fore : (e : Meaning) → Proper e → (ts : List State) (ρ : Choice) (m : Mode) (es : List Meaning) → All-closed ts →
+  any_fore : (e : Meaning) → Proper e → (ts : List State) (ρ : Choice) (m : Mode) (es : List Meaning) → AllClosed ts →
       SomeAllows (after G e ts) ρ m es → SomeAllows ts ρ m (e ∷ es)
   any_fore e P ts ρ m es c x =
       let p = after_out G e ts x.0 x.1 in
@@ -135,22 +135,22 @@ module _ (G : Graph) (W : WellFormed G) where
   runs_back [] ts ρ m x = x
   runs_back (e ∷ es) ts ρ m x = runs_back es (after G e ts) ρ m (any_back e ts ρ m es x)
 
-  pub runs_fore : (es : List Meaning) → AllProper es → (ts : List State) (ρ : Choice) (m : Mode) → All-closed ts → SomeAllows (final G ts es) ρ m [] → SomeAllows ts ρ m es
+  pub runs_fore : (es : List Meaning) → AllProper es → (ts : List State) (ρ : Choice) (m : Mode) → AllClosed ts → SomeAllows (final G ts es) ρ m [] → SomeAllows ts ρ m es
   runs_fore [] P ts ρ m c x = x
   runs_fore (e ∷ es) P ts ρ m c x = any_fore e P.0 ts ρ m es c (runs_fore es P.1 (after G e ts) ρ m (closed_after e ts c) x)
 
   pub whole_ends : (es : List Meaning) (ts : List State) (ρ : Choice) → SomeAllows ts ρ whole es → any_ends G (final G ts es) ≡ true
   whole_ends es ts ρ x = let y = runs_back es ts ρ whole x in any_end (final G ts es) ρ y.0 y.1 y.2
 
-  pub ends_whole : (es : List Meaning) → AllProper es → (ts : List State) (ρ : Choice) → All-closed ts → any_ends G (final G ts es) ≡ true → SomeAllows ts ρ whole es
+  pub ends_whole : (es : List Meaning) → AllProper es → (ts : List State) (ρ : Choice) → AllClosed ts → any_ends G (final G ts es) ≡ true → SomeAllows ts ρ whole es
   ends_whole es P ts ρ c q = runs_fore es P ts ρ whole c (ends_any (final G ts es) ρ q)
 
   -- beginnings
-  pub taken_is : (es : List Meaning) → AllProper es → (ts : List State) (ρ : Choice) → All-closed ts → (t : State) → In t ts → SomeAllows ts ρ beginning (take (takes G ts es) es)
+  pub taken_is : (es : List Meaning) → AllProper es → (ts : List State) (ρ : Choice) → AllClosed ts → (t : State) → In t ts → SomeAllows ts ρ beginning (take (takes G ts es) es)
   taken_is [] P ts ρ c t i = (t, i, begins G W t ρ)
   taken_is (e ∷ es) P ts ρ c t i = go (after G e ts) (any_fore e P.0 ts ρ beginning) (taken_is es P.1 (after G e ts) ρ (closed_after e ts c))
     where
-      go : (us : List State) → ((xs : List Meaning) → All-closed ts → SomeAllows us ρ beginning xs → SomeAllows ts ρ beginning (e ∷ xs)) →
+      go : (us : List State) → ((xs : List Meaning) → AllClosed ts → SomeAllows us ρ beginning xs → SomeAllows ts ρ beginning (e ∷ xs)) →
           ((u : State) → In u us → SomeAllows us ρ beginning (take (takes G us es) es)) →
           SomeAllows ts ρ beginning (take (counted us (takes G us es)) (e ∷ es))
       go [] f g = (t, i, begins G W t ρ)
@@ -168,7 +168,7 @@ module _ (G : Graph) (W : WellFormed G) where
       go (u ∷ us) y i = omega arith
 
   -- the start
-  pub start_closed : ((v : Var) → G.free 0 v ≡ false) → All-closed (start ∷ [])
+  pub start_closed : ((v : Var) → G.free 0 v ≡ false) → AllClosed (start ∷ [])
   start_closed Z t (inl q) = subst (Closed G) q (λ v x. true≢false (sym x.0 ∙ Z v))
   start_closed Z t (inr i) = absurd i
 

@@ -26,7 +26,7 @@ use Rattle.reporting.specs.Excerpts.{excerpt_of}
 use Rattle.judging.specs.declared.judgement.Judgement.{Judgement}
 use Rattle.judging.specs.Judging.{Judges}
 use Rattle.commands.specs.declared.command.Usage.{Usage}
-use Rattle.commands.specs.Said.{Said, rule, entry, text_line, binary_record, bare_line, bare_record, counts as ask_counts, verdict as ask_verdict, held as ask_held, judge, excerpt, help as ask_help, Told as Line-told, nothing, malformed, says}
+use Rattle.commands.specs.Said.{Said, rule, entry, text_line, binary_record, bare_line, bare_record, counts as ask_counts, verdict as ask_verdict, held as ask_held, judge, excerpt, help as ask_help, Told as LineTold, nothing, malformed, says}
 use Rattle.replies.specs.Told.{Told, a_rule, done, shown, counts, verdict, held, judged, part, help, refused, expected}
 use Rattle.interpreter.specs.declared.Interpreter.{Interpreter}
 use Rattle.interpreter.specs.Entries.{no_entries, with_entry}
@@ -91,7 +91,7 @@ Does i (excerpt rs ls n l s) k t = Tells i (part (part_of rs ls n l s)) k t
 Does i ask_help k t = Tells i help k t
 
 -- what a line does: one that is no command is passed over, one in another form than its command's is an error
-pub data Answers (i : Interpreter) : Line-told → Interpreter → Option Told → Type 0 where
+pub data Answers (i : Interpreter) : LineTold → Interpreter → Option Told → Type 0 where
   passed_over : Answers i nothing i None
   an_error : {u : Usage} → Answers i (malformed u) i (Some (expected u))
   a_command : {c : Said} {k : Interpreter} {t : Told} → Does i c k t → Answers i (says c) k (Some t)
