@@ -4,9 +4,9 @@
 mod report;
 mod survey;
 
-use anyhow::anyhow;
 use report::report;
 use std::io::Read;
+use std::process::ExitCode;
 use survey::Survey;
 
 fn run(rt: &HostRuntime) -> anyhow::Result<bool> {
@@ -19,10 +19,10 @@ fn run(rt: &HostRuntime) -> anyhow::Result<bool> {
 }
 
 // Ends with status 1 where a line cannot be read.
-fn main(rt: HostRuntime) -> anyhow::Result<()> {
+fn main(rt: HostRuntime) -> anyhow::Result<ExitCode> {
     if run(&rt)? {
-        Ok(())
+        Ok(ExitCode::SUCCESS)
     } else {
-        Err(anyhow!("a line cannot be read"))
+        Ok(ExitCode::FAILURE)
     }
 }

@@ -2,7 +2,6 @@
 // standard error.
 #![tactic(auto)]
 
-use anyhow::anyhow;
 use checking::rule::Rule;
 use events::derived::{Entries, Entry};
 use judging::judge::judge;
@@ -14,6 +13,7 @@ use reporting::excerpt::excerpt;
 use reporting::report::{ROOM, report};
 use std::fs;
 use std::io::{Read, Write};
+use std::process::ExitCode;
 
 // Entries that derive no type.
 const NO_ENTRIES: Entries = Entries {
@@ -68,10 +68,10 @@ fn run(rt: &HostRuntime) -> anyhow::Result<bool> {
 }
 
 // Ends with status 1 where the rule is refused or the log is faulty; a broken play is no fault.
-fn main(rt: HostRuntime) -> anyhow::Result<()> {
+fn main(rt: HostRuntime) -> anyhow::Result<ExitCode> {
     if run(&rt)? {
-        Ok(())
+        Ok(ExitCode::SUCCESS)
     } else {
-        Err(anyhow!("the log was not judged whole"))
+        Ok(ExitCode::FAILURE)
     }
 }

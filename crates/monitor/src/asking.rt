@@ -36,6 +36,7 @@ impl Monitor {
             Verdict::Open
         }
     }
+
     // The states that are held.
     pub fn held(&self) -> &[Tree]
         ensures { states result.now ≡ (run_of self.now).states }
