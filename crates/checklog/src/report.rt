@@ -5,7 +5,7 @@ ghost use Rattle.checklog.specs.Report.{type_text, counts_text, line_text, why_t
 use crate::survey::{Survey, TYPES};
 use lines::fault::{Cause, LogFault};
 use refusals::Layer;
-use refusals::text::quoted;
+use refusals::text::Quoted;
 use std::alloc::{AllocError, Global};
 
 // How many lines were read, how many events of each type there were, and then the fault, if there was one.
@@ -49,7 +49,7 @@ fn fault_line(heap: Global, log: &[u8], fault: &LogFault) -> Result<String, Allo
     let refusal = fault.refusal();
     let mut text = line_text(heap, word.line, refusal.number)?;
     text.push_str(cause_text(heap, refusal.layer, word.cause)?.as_str())?;
-    text.push_str(quoted(heap, word.span.part(log))?.as_str())?;
+    text.push_str(Quoted(word.span.part(log)).to_string(heap)?.as_str())?;
     text.push_str(place_text(heap, word.span.at)?.as_str())?;
     Ok(text)
 }

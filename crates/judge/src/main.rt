@@ -8,7 +8,7 @@ use judging::judge::judge;
 use judging::judgement::Judgement;
 use loading::fault::RuleFault;
 use loading::load;
-use refusals::message::message;
+use refusals::message::Message;
 use reporting::excerpt::excerpt;
 use reporting::report::{ROOM, report};
 use std::fs;
@@ -24,8 +24,13 @@ const NO_ENTRIES: Entries = Entries {
 fn tell_rule(rt: &HostRuntime, bytes: &[u8], fault: &RuleFault) -> anyhow::Result<()> {
     let refusal = fault.refusal();
     let part = excerpt(bytes, b"", &refusal);
-    let text = message(rt.alloc(), 0, &refusal, fault.cause(), part)?;
-    eprint!(rt; "rule.bin: {text}")?;
+    let message = Message {
+        line: 0,
+        refusal,
+        cause: fault.cause(),
+        part,
+    };
+    eprint!(rt; "rule.bin: {message}")?;
     Ok(())
 }
 
@@ -46,8 +51,13 @@ fn tell(rt: &HostRuntime, rule: &[u8], log: &[u8], judgement: &Judgement) -> any
         return Ok(false);
     };
     let part = excerpt(rule, log, &refusal);
-    let text = message(rt.alloc(), line, &refusal, fault.cause(), part)?;
-    eprint!(rt; "{text}")?;
+    let message = Message {
+        line,
+        refusal,
+        cause: fault.cause(),
+        part,
+    };
+    eprint!(rt; "{message}")?;
     Ok(false)
 }
 

@@ -1,3 +1,2 @@
 pub mod Clipped
-pub mod Escapes
 pub mod Octets

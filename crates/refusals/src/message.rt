@@ -1,55 +1,71 @@
 // A refusal in plain words, on one line.
-ghost use Rattle.std.specs.Prelude.{◌≡◌, IfOk, string_bytes};
-ghost use Rattle.refusals.specs.Message.{line_text, refused_text, place_text, message_text};
+ghost use Rattle.std.specs.Prelude.{Some};
+ghost use Rattle.std.specs.Option.{option_map};
+ghost use Rattle.refusals.specs.Message.{line_text, place_text, message_text};
 
-use crate::text::quoted;
+use crate::text::Quoted;
 use crate::{Place, Refusal};
-use std::alloc::{AllocError, Global};
+use std::fmt;
 
-// The number of the line in a log (0 where there is none), the refusal, its cause, and its place with the bytes that lie there.
-pub fn message(
-    heap: Global,
-    line: usize,
-    refusal: &Refusal,
-    cause: &str,
-    part: &[u8],
-) -> Result<String, AllocError>
-    ensures { IfOk result (λ s. string_bytes s ≡ message_text line refusal.now cause.now part.now) }
-{
-    let mut text = line_text(heap, line)?;
-    text.push_str(refused_text(heap, refusal, cause)?.as_str())?;
-    text.push_str(place_text(heap, refusal.place, part)?.as_str())?;
-    text.push_str("\n")?;
-    Ok(text)
-}
+// Where in a log: the number of a line, or 0 where there is none.
+#[derive(Clone, Copy)]
+struct AtLine(usize);
 
-fn line_text(heap: Global, line: usize) -> Result<String, AllocError>
-    ensures { IfOk result (λ s. string_bytes s ≡ line_text line) }
-{
-    if line == 0 {
-        return Ok(String::new(heap));
-    }
-    format!(in heap; "line {line}: ")
-}
+impl fmt::Display for AtLine {
+    ghost output = { λ x. Some (line_text x.0) };
 
-fn refused_text(heap: Global, refusal: &Refusal, cause: &str) -> Result<String, AllocError>
-    ensures { IfOk result (λ s. string_bytes s ≡ refused_text refusal.now cause.now) }
-{
-    let number = refusal.number;
-    let layer = refusal.layer;
-    format!(in heap; "refused {number} {layer}: {cause}")
-}
-
-fn place_text(heap: Global, place: Place, part: &[u8]) -> Result<String, AllocError>
-    ensures { IfOk result (λ s. string_bytes s ≡ place_text place part.now) }
-{
-    match place {
-        Place::Nowhere => Ok(String::new(heap)),
-        Place::Node(node) => format!(in heap; " at node {node}"),
-        Place::Bytes(span) => {
-            let bytes = quoted(heap, part)?;
-            let at = span.at;
-            format!(in heap; " {bytes} at byte {at}")
+    fn fmt<W: fmt::Write>(&self, f: &mut fmt::Formatter<W>) -> fmt::Result {
+        match self.0 {
+            0 => Ok(()),
+            line => write!(f, "line {line}: "),
         }
+    }
+}
+
+// The place of a fault, with the bytes that lie there.
+#[derive(Clone, Copy)]
+struct AtPlace<'a> {
+    place: Place,
+    part: &'a [u8],
+}
+
+impl fmt::Display for AtPlace<'_> {
+    ghost output = { λ x. Some (place_text x.place x.part.now) };
+
+    fn fmt<W: fmt::Write>(&self, f: &mut fmt::Formatter<W>) -> fmt::Result {
+        match self.place {
+            Place::Nowhere => Ok(()),
+            Place::Node(node) => write!(f, " at node {node}"),
+            Place::Bytes(span) => {
+                let bytes = Quoted(self.part);
+                let at = span.at;
+                write!(f, " {bytes} at byte {at}")
+            }
+        }
+    }
+}
+
+// A refusal with its cause and the bytes that lie at its place, and the number of the line in a log (0 where there is none).
+#[derive(Clone, Copy)]
+pub struct Message<'a, C> {
+    pub line: usize,
+    pub refusal: Refusal,
+    pub cause: C,
+    pub part: &'a [u8],
+}
+
+impl<C: fmt::Display> fmt::Display for Message<'_, C> {
+    ghost output = { λ x. option_map (λ cause. message_text x.line x.refusal cause x.part.now) (C.output x.cause) };
+
+    fn fmt<W: fmt::Write>(&self, f: &mut fmt::Formatter<W>) -> fmt::Result {
+        let line = AtLine(self.line);
+        let number = self.refusal.number;
+        let layer = self.refusal.layer;
+        let cause = &self.cause;
+        let place = AtPlace {
+            place: self.refusal.place,
+            part: self.part,
+        };
+        writeln!(f, "{line}refused {number} {layer}: {cause}{place}")
     }
 }

@@ -1,19 +1,8 @@
 // Bytes as readable text.
-ghost use Rattle.std.specs.Prelude.{◌≡◌, ◌<◌, ◌++◌, IfOk, string_bytes, OnOk};
-ghost use Rattle.refusals.specs.Text.{hex_digit, is_plain, escaped, quoted_of};
+ghost use Rattle.std.specs.Prelude.{◌≡◌, Some};
+ghost use Rattle.refusals.specs.Text.{is_plain, escaped, quoted_of};
 
-use std::alloc::{AllocError, Global};
-
-fn hex_digit(n: u8) -> char
-    requires { n < 16 }
-    ensures { result ≡ hex_digit n }
-{
-    if n < 10 {
-        (b'0' + n) as char
-    } else {
-        (b'A' + (n - 10)) as char
-    }
-}
+use std::fmt;
 
 // Printable, and neither a quote nor a backslash.
 fn is_plain(b: u8) -> bool
@@ -22,26 +11,36 @@ fn is_plain(b: u8) -> bool
     b >= 32 && b <= 126 && b != b'"' && b != b'\\'
 }
 
-fn push_escaped(text: &mut String, b: u8) -> Result<(), AllocError>
-    ensures { OnOk result (string_bytes text.new ≡ string_bytes text.old ++ escaped b) }
-{
-    if is_plain(b) {
-        return text.push(b as char);
+// A byte as it stands between quotes.
+#[derive(Clone, Copy)]
+struct Escaped(u8);
+
+impl fmt::Display for Escaped {
+    ghost output = { λ x. Some (escaped x.0) };
+
+    fn fmt<W: fmt::Write>(&self, f: &mut fmt::Formatter<W>) -> fmt::Result {
+        let b = self.0;
+        if is_plain(b) {
+            f.write_char(b as char)
+        } else {
+            write!(f, "\\x{b:02X}")
+        }
     }
-    text.push_str("\\x")?;
-    text.push(hex_digit(b / 16))?;
-    text.push(hex_digit(b % 16))?;
-    Ok(())
 }
 
-// The bytes between quotes; a byte that does not print is written `\x` and two hexadecimal digits.
-pub fn quoted(heap: Global, bytes: &[u8]) -> Result<String, AllocError>
-    ensures { IfOk result (λ s. string_bytes s ≡ quoted_of bytes.now) }
-{
-    let mut text = String::from_str(heap, "\"")?;
-    for b in bytes {
-        push_escaped(&mut text, *b)?;
+// Bytes between quotes; one that does not print is written `\x` and two hexadecimal digits.
+#[derive(Clone, Copy)]
+pub struct Quoted<'a>(pub &'a [u8]);
+
+impl fmt::Display for Quoted<'_> {
+    ghost output = { λ x. Some (quoted_of x.0.now) };
+
+    fn fmt<W: fmt::Write>(&self, f: &mut fmt::Formatter<W>) -> fmt::Result {
+        f.write_str("\"")?;
+        for b in self.0 {
+            let byte = Escaped(*b);
+            write!(f, "{byte}")?;
+        }
+        f.write_str("\"")
     }
-    text.push_str("\"")?;
-    Ok(text)
 }
