@@ -1,5 +1,5 @@
 -- What an event means under entries that derive further types from those it has.
-use Rattle.std.specs.Prelude.{ℕ, ◌-◌, Bool, cond, not, ◌&&◌, nat_le, slice_index_or}
+use Rattle.std.specs.Prelude.{ℕ, ◌-◌, Bool, cond, not, ◌&&◌, Some, None, Option, nat_le, replicate, slice_index_or, slice_set}
 use Rattle.events.specs.declared.meaning.Meaning.{Meaning}
 use Rattle.events.specs.declared.types.TypeSet.{TypeSet}
 use Rattle.events.specs.declared.derived.Entries.{Entries}
@@ -13,9 +13,20 @@ derives u t Absent = has u t
 derives u t (AnyOf s) = not (is_empty (common s u))
 derives u t (NoneOf s) = is_empty (common s u)
 
--- the entries are for the types 48 to 63
+-- the entries are for the types 48 to 63, in their order
+abbrev pub place_of : ℕ → Option ℕ
+place_of t = cond (nat_le 48 t && nat_le t 63) (Some (t - 48)) None
+
 abbrev pub entry_for : Entries → ℕ → Entry
 entry_for es t = cond (nat_le 48 t && nat_le t 63) (slice_index_or es.list (t - 48) Absent) Absent
+
+-- no type is derived
+abbrev pub no_entries : Entries
+no_entries = record { list = replicate 16 Absent }
+
+-- another entry for a type; a type that no entry is for leaves them as they are
+abbrev pub with_entry : Entries → ℕ → Entry → Entries
+with_entry es t e = record { list = cond (nat_le 48 t && nat_le t 63) (slice_set es.list (t - 48) e) es.list }
 
 -- the slots are those of the event below
 abbrev pub derived : Meaning → Entries → Meaning

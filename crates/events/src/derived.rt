@@ -1,6 +1,6 @@
 // Types that are derived from those of an event.
 ghost use Rattle.std.specs.Prelude.{◌≡◌};
-ghost use Rattle.events.specs.Derivation.{derived, entry_for};
+ghost use Rattle.events.specs.Derivation.{derived, place_of, entry_for, with_entry};
 ghost use Rattle.events.specs.Sets.{those_known};
 
 use crate::event::Event;
@@ -14,28 +14,53 @@ pub const FIRST_DERIVED: u8 = 48;
 pub const LAST_DERIVED: u8 = 63;
 
 // What derives one type, if anything does: the event below is of at least one type of the set, or of none.
-#[derive(Clone, Copy)]
+#[derive(Clone, Copy, Debug, PartialEq, Eq)]
 pub enum Entry {
     Absent,
     AnyOf(TypeSet),
     NoneOf(TypeSet),
 }
 
+// The place of a type's entry, for a type that can have one.
+fn place(ty: u8) -> Option<usize>
+    ensures { result ≡ place_of ty }
+{
+    if ty >= FIRST_DERIVED && ty <= LAST_DERIVED {
+        Some(usize::from(ty - FIRST_DERIVED))
+    } else {
+        None
+    }
+}
+
 // The entries for types 48 to 63, in their order.
-#[derive(Clone, Copy)]
+#[derive(Clone, Copy, Debug, PartialEq, Eq)]
 pub struct Entries {
     pub list: [Entry; 16],
 }
 
 impl Entries {
+    // No type is derived.
+    pub const NONE: Entries = Entries {
+        list: [Entry::Absent; 16],
+    };
+
+    // Another entry for one type; a type that no entry is for leaves them as they are.
+    pub fn with(mut self, ty: u8, entry: Entry) -> Entries
+        ensures { result ≡ with_entry self ty entry }
+    {
+        if let Some(at) = place(ty) {
+            self.list[at] = entry;
+        }
+        self
+    }
+
     // The entry for a type; absent for one that no entry is for.
     pub fn entry_for(&self, ty: u8) -> Entry
         ensures { result ≡ entry_for self.now ty }
     {
-        if ty >= FIRST_DERIVED && ty <= LAST_DERIVED {
-            self.list[(ty - FIRST_DERIVED) as usize]
-        } else {
-            Entry::Absent
+        match place(ty) {
+            Some(at) => self.list[at],
+            None => Entry::Absent,
         }
     }
 }

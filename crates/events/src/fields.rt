@@ -4,7 +4,7 @@ ghost use Rattle.events.specs.Types.{has};
 ghost use Rattle.events.specs.Meanings.{single, in_slot};
 
 // One type, and three slots of which some are filled.
-#[derive(Clone, Copy)]
+#[derive(Clone, Copy, Debug, PartialEq, Eq)]
 pub struct Fields {
     pub ty: u8,
     pub player: Option<u32>,
@@ -25,10 +25,7 @@ impl Fields {
         match slot {
             0 => self.player,
             1 => self.card,
-            2 => match self.strokes {
-                Some(n) => Some(u32::from(n)),
-                None => None,
-            },
+            2 => self.strokes.map(u32::from),
             _ => None,
         }
     }

@@ -3,7 +3,7 @@ ghost use Rattle.std.specs.Prelude.{◌≡◌};
 ghost use Rattle.events.specs.Types.{has};
 
 // A set of types, numbered 0 to 63: type t is in it where bit t is set.
-#[derive(Clone, Copy)]
+#[derive(Clone, Copy, Debug, PartialEq, Eq)]
 pub struct TypeSet {
     pub bits: u64,
 }
