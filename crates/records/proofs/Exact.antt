@@ -7,7 +7,7 @@ use Rattle.events.specs.declared.fields.Fields.{Fields}
 use Rattle.events.specs.Ranges.{Below, InRange}
 use Rattle.records.specs.declared.Record.{Record}
 use Rattle.records.specs.declared.RecordFault.{RecordFault}
-use Rattle.records.specs.Records.{joined4, bytes4, bytes1, ended, announced, fields_of, or_bad, record_of}
+use Rattle.records.specs.Records.{joined4, bytes4, bytes1, field, ended, announced, fields_of, or_bad, record_of}
 use Rattle.records.specs.Encoding.{put4, put1, flag, map_of, encoded, Exactly}
 
 impossible : {A : Type 0} → ◌≡◌ {A = ℕ} 0 1 → A
@@ -20,11 +20,11 @@ abbrev filled : Option ℕ → Bool
 filled None = false
 filled (Some n) = true
 
-four_back : (o : Option ℕ) (xs : List ℕ) → bytes4 (filled o) (put4 o xs) ≡ Some (o, xs)
+four_back : (o : Option ℕ) (xs : List ℕ) → field bytes4 (filled o) (put4 o xs) ≡ Some (o, xs)
 four_back None xs = refl
 four_back (Some n) xs = ap (λ (k : ℕ). Some (Some k, xs)) (quad n)
 
-one_back : (o : Option ℕ) (xs : List ℕ) → bytes1 (filled o) (put1 o xs) ≡ Some (o, xs)
+one_back : (o : Option ℕ) (xs : List ℕ) → field bytes1 (filled o) (put1 o xs) ≡ Some (o, xs)
 one_back None xs = refl
 one_back (Some n) xs = refl
 
@@ -76,7 +76,7 @@ pub record Made1 (b : Bool) (xs : List ℕ) (o : Option ℕ) (ys : List ℕ) : T
 abbrev Slotted : Type 0
 Slotted = Option ℕ × List ℕ
 
-four_made : (b : Bool) (xs : List ℕ) (p : Slotted) → Octets xs → bytes4 b xs ≡ Some p → Made4 b xs p.0 p.1
+four_made : (b : Bool) (xs : List ℕ) (p : Slotted) → Octets xs → field bytes4 b xs ≡ Some p → Made4 b xs p.0 p.1
 four_made false xs p o e =
     let q : (None, xs) ≡ p = cc in
     subst (λ (r : Slotted). Made4 false xs r.0 r.1) q (record { bytes = refl; fits = tt; told = refl; rest = o })
@@ -94,7 +94,7 @@ four_made true (a ∷ b ∷ c ∷ d ∷ xs) p o e =
     let w : (a ∷ b ∷ c ∷ d ∷ xs) ≡ put4 (Some (joined4 a b c d)) xs = cc in
     subst (λ (r : Slotted). Made4 true (a ∷ b ∷ c ∷ d ∷ xs) r.0 r.1) q (record { bytes = w; fits = omega arith; told = refl; rest = o.1.1.1.1 })
 
-one_made : (b : Bool) (xs : List ℕ) (p : Slotted) → Octets xs → bytes1 b xs ≡ Some p → Made1 b xs p.0 p.1
+one_made : (b : Bool) (xs : List ℕ) (p : Slotted) → Octets xs → field bytes1 b xs ≡ Some p → Made1 b xs p.0 p.1
 one_made false xs p o e =
     let q : (None, xs) ≡ p = cc in
     subst (λ (r : Slotted). Made1 false xs r.0 r.1) q (record { bytes = refl; fits = tt; told = refl; rest = o })
@@ -121,11 +121,11 @@ number_bit x = go (x % 2) (omega arith)
 
 announced_made : (m k : ℕ) (xs : List ℕ) (f : Fields) → m ≤ 7 → k ≤ 47 → Octets xs → announced m k xs ≡ Some f → (m ∷ k ∷ xs ≡ encoded f) × InRange f
 announced_made m k xs f hm hk o e =
-    let p = on_some (bytes4 (eqb (m % 2) 1) xs) _ f e in
+    let p = on_some (field bytes4 (eqb (m % 2) 1) xs) _ f e in
     let a = four_made (eqb (m % 2) 1) xs p.0 o p.1 in
-    let c = on_some (bytes4 (eqb (m / 2 % 2) 1) p.0.1) _ f p.2 in
+    let c = on_some (field bytes4 (eqb (m / 2 % 2) 1) p.0.1) _ f p.2 in
     let b = four_made (eqb (m / 2 % 2) 1) p.0.1 c.0 a.rest c.1 in
-    let s = on_some (bytes1 (eqb (m / 4 % 2) 1) c.0.1) _ f c.2 in
+    let s = on_some (field bytes1 (eqb (m / 4 % 2) 1) c.0.1) _ f c.2 in
     let d = one_made (eqb (m / 4 % 2) 1) c.0.1 s.0 b.rest s.1 in
     let g : Fields = record { ty = k; player = p.0.0; card = c.0.0; strokes = s.0.0 } in
     let z = ended_made g f s.0.1 s.2 in

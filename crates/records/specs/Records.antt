@@ -12,20 +12,23 @@ use Rattle.records.specs.declared.RecordFault.{RecordFault}
 abbrev pub joined4 : ℕ → ℕ → ℕ → ℕ → ℕ
 joined4 a b c d = ((a * 256 + b) * 256 + c) * 256 + d
 
--- a field of four bytes, if it is announced, and what follows it
-abbrev pub bytes4 : Bool → List ℕ → Option (Option ℕ × List ℕ)
-bytes4 false xs = Some (None, xs)
-bytes4 true [] = None
-bytes4 true (a ∷ []) = None
-bytes4 true (a ∷ b ∷ []) = None
-bytes4 true (a ∷ b ∷ c ∷ []) = None
-bytes4 true (a ∷ b ∷ c ∷ d ∷ xs) = Some (Some (joined4 a b c d), xs)
+-- a number of four bytes at the front, and what follows it
+abbrev pub bytes4 : List ℕ → Option (ℕ × List ℕ)
+bytes4 [] = None
+bytes4 (a ∷ []) = None
+bytes4 (a ∷ b ∷ []) = None
+bytes4 (a ∷ b ∷ c ∷ []) = None
+bytes4 (a ∷ b ∷ c ∷ d ∷ xs) = Some (joined4 a b c d, xs)
 
--- a field of one byte, likewise
-abbrev pub bytes1 : Bool → List ℕ → Option (Option ℕ × List ℕ)
-bytes1 false xs = Some (None, xs)
-bytes1 true [] = None
-bytes1 true (a ∷ xs) = Some (Some a, xs)
+-- one of one byte, likewise
+abbrev pub bytes1 : List ℕ → Option (ℕ × List ℕ)
+bytes1 [] = None
+bytes1 (a ∷ xs) = Some (a, xs)
+
+-- a field of such a number, if it is announced, and what follows it
+abbrev pub field : {N : Type 0} → (List ℕ → Option (N × List ℕ)) → Bool → List ℕ → Option (Option N × List ℕ)
+field first false xs = Some (None, xs)
+field first true xs = on (first xs) (λ p. Some (Some p.0, p.1))
 
 -- nothing may follow
 abbrev pub ended : Fields → List ℕ → Option Fields
@@ -35,9 +38,9 @@ ended f (x ∷ xs) = None
 -- the fields that a map announces by bits 0, 1 and 2: player, card and strokes, in this order
 abbrev pub announced : ℕ → ℕ → List ℕ → Option Fields
 announced map ty xs =
-    on (bytes4 (map % 2 == 1) xs) (λ p.
-    on (bytes4 (map / 2 % 2 == 1) p.1) (λ c.
-    on (bytes1 (map / 4 % 2 == 1) c.1) (λ s.
+    on (field bytes4 (map % 2 == 1) xs) (λ p.
+    on (field bytes4 (map / 2 % 2 == 1) p.1) (λ c.
+    on (field bytes1 (map / 4 % 2 == 1) c.1) (λ s.
     ended (record { ty = ty; player = p.0; card = c.0; strokes = s.0 }) s.1)))
 
 abbrev pub fields_of : List ℕ → Option Fields

@@ -1,15 +1,18 @@
 // Events as binary records.
 #![tactic(auto)]
 
-ghost use Rattle.std.specs.Prelude.{◌≡◌, Some, None, MatchOption};
+ghost use Rattle.std.specs.Prelude.{◌≡◌};
 ghost use Rattle.events.specs.Meanings.{single};
-ghost use Rattle.records.specs.Encoding.{Exactly};
-ghost use Rattle.records.specs.Records.{record_of, record_refusal, fields_of, announced, bytes1, bytes4, joined4};
 ghost use Rattle.events.specs.Sets.{those_known};
+ghost use Rattle.records.specs.Encoding.{Exactly};
+ghost use Rattle.records.specs.Records.{record_of, record_refusal, fields_of, announced};
 
+use crate::field::field;
 use events::event::Event;
 use events::fields::Fields;
 use refusals::{Layer, Place, Refusal, Span};
+
+mod field;
 
 // A map announces the player by bit 0, the card by bit 1 and the strokes by bit 2.
 const MOST_MAP: u8 = 7;
@@ -17,26 +20,34 @@ const MOST_MAP: u8 = 7;
 const MOST_TYPE: u8 = 47;
 
 // An event that came as a record.
-#[derive(Clone, Copy)]
+#[derive(Clone, Copy, Debug, PartialEq, Eq)]
 pub struct Record {
     pub fields: Fields,
 }
 
 // Bytes that are no record: all of them.
-#[derive(Clone, Copy)]
+#[derive(Clone, Copy, Debug, PartialEq, Eq)]
 pub struct RecordFault {
     pub span: Span,
+}
+
+impl From<RecordFault> for Refusal {
+    ghost from_gives = { λ f r. r ≡ record_refusal f };
+
+    fn from(fault: RecordFault) -> Refusal {
+        Refusal {
+            number: 11,
+            layer: Layer::Record,
+            place: Place::Bytes(fault.span),
+        }
+    }
 }
 
 impl RecordFault {
     pub fn refusal(&self) -> Refusal
         ensures { result ≡ record_refusal self.now }
     {
-        Refusal {
-            number: 11,
-            layer: Layer::Record,
-            place: Place::Bytes(self.span),
-        }
+        Refusal::from(*self)
     }
 }
 
@@ -46,14 +57,14 @@ impl Record {
         ensures answer { result ≡ record_of bytes.now }
         ensures exact { Exactly bytes.now result }
     {
-        let Some(fields) = fields_of(bytes) else {
-            let span = Span {
-                at: 0,
-                len: bytes.len(),
-            };
-            return Err(RecordFault { span });
+        let span = Span {
+            at: 0,
+            len: bytes.len(),
         };
-        Ok(Record { fields })
+        match fields_of(bytes) {
+            Some(fields) => Ok(Record { fields }),
+            None => Err(RecordFault { span }),
+        }
     }
 }
 
@@ -86,15 +97,9 @@ fn fields_of(bytes: &[u8]) -> Option<Fields>
 fn announced_fields(map: u8, ty: u8, bytes: &[u8]) -> Option<Fields>
     ensures { result ≡ announced map ty bytes.now }
 {
-    let Some((player, rest)) = four_bytes(map % 2 == 1, bytes) else {
-        return None;
-    };
-    let Some((card, rest)) = four_bytes(map / 2 % 2 == 1, rest) else {
-        return None;
-    };
-    let Some((strokes, rest)) = one_byte(map / 4 % 2 == 1, rest) else {
-        return None;
-    };
+    let (player, rest) = field(map % 2 == 1, bytes)?;
+    let (card, rest) = field(map / 2 % 2 == 1, rest)?;
+    let (strokes, rest) = field(map / 4 % 2 == 1, rest)?;
     match rest {
         [] => Some(Fields {
             ty,
@@ -102,39 +107,6 @@ fn announced_fields(map: u8, ty: u8, bytes: &[u8]) -> Option<Fields>
             card,
             strokes,
         }),
-        _ => None,
-    }
-}
-
-// The highest byte comes first.
-fn join(a: u8, b: u8, c: u8, d: u8) -> u32
-    ensures { result ≡ joined4 a b c d }
-{
-    u32::from_be_bytes([a, b, c, d])
-}
-
-// A field of four bytes, if it is announced, and what follows; nothing where bytes are missing.
-fn four_bytes(announced: bool, bytes: &[u8]) -> Option<(Option<u32>, &[u8])>
-    ensures { MatchOption result (bytes4 announced bytes.now ≡ None) (λ p. bytes4 announced bytes.now ≡ Some (p.0, p.1.now)) }
-{
-    if !announced {
-        return Some((None, bytes));
-    }
-    match bytes {
-        [a, b, c, d, rest @ ..] => Some((Some(join(*a, *b, *c, *d)), rest)),
-        _ => None,
-    }
-}
-
-// A field of one byte, likewise.
-fn one_byte(announced: bool, bytes: &[u8]) -> Option<(Option<u8>, &[u8])>
-    ensures { MatchOption result (bytes1 announced bytes.now ≡ None) (λ p. bytes1 announced bytes.now ≡ Some (p.0, p.1.now)) }
-{
-    if !announced {
-        return Some((None, bytes));
-    }
-    match bytes {
-        [a, rest @ ..] => Some((Some(*a), rest)),
         _ => None,
     }
 }

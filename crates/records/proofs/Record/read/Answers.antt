@@ -1,14 +1,10 @@
-use Rattle.std.proofs.Common.{◌≡◌, Ok, Err, ap, arith}
-use Rattle.records.specs.Records.{or_bad, record_of}
+use Rattle.std.proofs.Common.{ap, arith}
+use Rattle.records.specs.Records.{or_bad}
 use Rattle.records.proofs.Exact.{exactly_at}
 use Rattle.records.proofs.Record.read.Goals as goal
 
-pub returns-in_default : goal.returns-in_default
-returns-in_default c =
-    let e : Err (record { span = _ }) ≡ record_of c.args.bytes.now = ap (or_bad _) c.in_default.ensures in
-    record { answer = e; exact = exactly_at c.args.bytes.now _ (λ i. omega (arith, c.type_inv.bytes i)) e }
+pub returns-in-Some-clause-exact : goal.returns-in-Some-clause-exact
+returns-in-Some-clause-exact c = exactly_at c.args.bytes.now _ (λ i. omega (arith, c.type_inv.bytes i)) (ap (or_bad _) c.in-Some.ensures)
 
-pub returns : goal.returns
-returns c =
-    let e : Ok (record { fields = c.in-Some.fields }) ≡ record_of c.args.bytes.now = ap (or_bad _) c.in-Some.ensures in
-    record { answer = e; exact = exactly_at c.args.bytes.now _ (λ i. omega (arith, c.type_inv.bytes i)) e }
+pub returns-in-None-clause-exact : goal.returns-in-None-clause-exact
+returns-in-None-clause-exact c = exactly_at c.args.bytes.now _ (λ i. omega (arith, c.type_inv.bytes i)) (ap (or_bad _) c.in-None.ensures)
