@@ -5,7 +5,7 @@ use Rattle.std.proofs.lemmas.Bool.{eqb-true, eqb-false}
 use Rattle.lines.specs.declared.line.Line.{Line}
 use Rattle.lines.specs.declared.log.LogLine.{LogLine}
 use Rattle.lines.specs.declared.fault.LogFault.{LogFault}
-use Rattle.lines.specs.Logs.{lines_of, log_line_of, first, others}
+use Rattle.lines.specs.Logs.{lines_of, log_line_of}
 use Rattle.std.proofs.lemmas.Result.{IfOk-at_ok}
 use Rattle.lines.proofs.Known.{log_line_known}
 use Rattle.lines.proofs.Numbered.{lines_few}
@@ -83,14 +83,9 @@ room log l ls x n counts e k h =
     let few' = readable_few log (lines_of log) in
     (omega (arith, d.lines), omega (arith, d.each x.fields.ty (omega arith), of_type_few x.fields.ty (readable log (lines_of log))))
 
-first_line : (ls rest : List LogLine) (l : LogLine) → Some l ≡ first ls → rest ≡ others ls → ls ≡ l ∷ rest
-first_line [] rest l e q = absurd (let z : ◌≡◌ {A = ℕ} 0 1 = cc in omega arith)
-first_line (m ∷ ls) rest l e q = cc
-
 pub known : (log : List ℕ) (l : LogLine) (x : Line) → Ok x ≡ log_line_of l log → x.fields.ty ≤ 47
 known log l x e = IfOk-at_ok (λ y. y.fields.ty ≤ 47) (sym e) (log_line_known l log)
 
 -- the line that comes next
-pub at_line : (log : List ℕ) (ls rest : List LogLine) (l : LogLine) (n : ℕ) (counts : List ℕ) → Some l ≡ first ls → rest ≡ others ls
-    → Counting log ls n counts → Counting log (l ∷ rest) n counts
-at_line log ls rest l n counts e q h = subst (λ (ms : List LogLine). Counting log ms n counts) (first_line ls rest l e q) h
+pub at_line : (log : List ℕ) (ls rest : List LogLine) (l : LogLine) (n : ℕ) (counts : List ℕ) → ls ≡ l ∷ rest → Counting log ls n counts → Counting log (l ∷ rest) n counts
+at_line log ls rest l n counts e h = subst (λ (ms : List LogLine). Counting log ms n counts) e h

@@ -21,8 +21,7 @@ impl Survey {
     {
         let mut lines = 0;
         let mut counts = [0; TYPES];
-        let mut left = Lines::of(log);
-        while let Some(line) = left.next() {
+        for line in Lines::of(log) {
             match line.read(log) {
                 Ok(event) => {
                     counts[event.fields.ty as usize] += 1;

@@ -3,10 +3,12 @@ use Rattle.std.proofs.Common.{◌≡◌, ℕ, ◌+◌, ◌^◌, ◌≤◌, false
 use Rattle.events.specs.declared.fields.Fields.{Fields}
 use Rattle.events.specs.Ranges.{Below, InRange}
 use Rattle.lines.specs.declared.fault.Cause.TheVariants.{Bad, TooLarge}
-use Rattle.lines.specs.Pieces.{before, placed}
+use Rattle.lines.specs.Pieces.{placed}
+use Rattle.tokens.specs.Pieces.{before}
 use Rattle.lines.specs.Lines.{space, follows, puts, through, bare, other_words, form_of, numbers_of, line_of}
 use Rattle.lines.specs.Text.{word, words_of, text_of}
-use Rattle.lines.proofs.Spelling.{decimal_formed, within_decimal, AllSpaceless, spaceless_more, spaceless_decimal, first_spaced, others_spaced}
+use Rattle.tokens.proofs.Numerals.{decimal_formed, within_decimal}
+use Rattle.lines.proofs.Spelling.{AllSpaceless, spaceless_more, spaceless_decimal, first_spaced, others_spaced}
 
 abbrev fields_by : ℕ → Option ℕ → Option ℕ → Option ℕ → Fields
 fields_by ty p c s = record { ty = ty; player = p; card = c; strokes = s }

@@ -7,8 +7,9 @@ use Rattle.lines.specs.declared.fault.Cause.TheVariants.{TooLarge}
 use Rattle.lines.specs.declared.line.Line.{Line}
 use Rattle.lines.specs.declared.log.LogLine.{LogLine}
 use Rattle.lines.specs.declared.fault.LineFault.{LineFault}
-use Rattle.lines.specs.Numerals.{within, value}
-use Rattle.lines.specs.Pieces.{Piece, before}
+use Rattle.tokens.specs.Numerals.{within, value}
+use Rattle.lines.specs.Pieces.{Piece}
+use Rattle.tokens.specs.Pieces.{before}
 use Rattle.refusals.specs.Options.{on}
 use Rattle.lines.specs.Lines.{space, fault_of, or_refuse, puts, through, bare, other_words, form_of, numbers_of, formed_first, line_of, type_word}
 use Rattle.lines.specs.Logs.{of_log, log_line_of}

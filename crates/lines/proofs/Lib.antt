@@ -1,5 +1,4 @@
 pub mod Back
-pub mod Cuts
 pub mod Exact
 pub mod Known
 pub mod Lengths
@@ -7,4 +6,3 @@ pub mod Numbered
 pub mod Only
 pub mod Spelling
 pub mod Through
-pub mod Values

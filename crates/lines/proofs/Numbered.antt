@@ -3,9 +3,9 @@ use Rattle.std.proofs.Common.{◌≡◌, ℕ, suc, ◌+◌, ◌-◌, ◌<◌, �
 use Rattle.std.specs.Option.{option_map}
 use Rattle.std.proofs.lemmas.List.{nil_from_length}
 use Rattle.lines.specs.declared.log.LogLine.{LogLine}
-use Rattle.lines.specs.Pieces.{before, after, longer, pieces}
+use Rattle.tokens.specs.Pieces.{before, after, longer, pieces, pieces_in}
 use Rattle.lines.specs.Logs.{newline, trimmed, numbered, lines_from, lines_of, first, others}
-use Rattle.lines.proofs.Cuts.{following, pieces_first}
+use Rattle.tokens.proofs.Cuts.{pieces_first}
 
 abbrev pub or_nil : Option (List ℕ) → List ℕ
 or_nil None = []
@@ -34,7 +34,7 @@ lines_first at n xs h =
     ap (λ ps. numbered at n (trimmed ps)) (pieces_first newline xs) ∙ go (after newline xs) refl
   where
     go : (o : Option (List ℕ)) → o ≡ after newline xs
-        → numbered at n (trimmed (before newline xs ∷ following newline o)) ≡ record { span = record { at = at; len = length (before newline xs) }; number = n + 1 } ∷ lines_from (at + length (before newline xs) + 1) (n + 1) (or_nil o)
+        → numbered at n (trimmed (before newline xs ∷ pieces_in newline o)) ≡ record { span = record { at = at; len = length (before newline xs) }; number = n + 1 } ∷ lines_from (at + length (before newline xs) + 1) (n + 1) (or_nil o)
     go None e = ap (numbered at n) (kept (before newline xs) (omega (arith, ap length (whole newline xs e))))
     go (Some ys) e = ap (numbered at n) (trimmed_more (before newline xs) ys)
 
@@ -68,7 +68,7 @@ trimmed_few : (xs : List ℕ) → length (trimmed (pieces newline xs)) ≤ lengt
 trimmed_few [] = omega arith
 trimmed_few (x ∷ xs) = go (eqb x newline) (pieces newline xs) (pieces_first newline xs) (trimmed_few xs)
   where
-    go : (b : Bool) (ps : List (List ℕ)) → ps ≡ before newline xs ∷ following newline (after newline xs) → length (trimmed ps) ≤ length xs → length (trimmed (cond b ([] ∷ ps) (longer x ps))) ≤ length (x ∷ xs)
+    go : (b : Bool) (ps : List (List ℕ)) → ps ≡ before newline xs ∷ pieces_in newline (after newline xs) → length (trimmed ps) ≤ length xs → length (trimmed (cond b ([] ∷ ps) (longer x ps))) ≤ length (x ∷ xs)
     go b [] e h = absurd (let z : ◌≡◌ {A = ℕ} 0 1 = cc in omega arith)
     go true (p ∷ ps) e h = omega arith
     go false (p ∷ []) e h = omega arith

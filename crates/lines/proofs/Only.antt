@@ -8,12 +8,13 @@ use Rattle.lines.specs.declared.line.Line.{Line}
 use Rattle.lines.specs.declared.fault.Cause.{Cause}
 use Rattle.lines.specs.declared.fault.Cause.TheVariants.{Bad, TooLarge}
 use Rattle.lines.specs.declared.fault.WordFault.{WordFault}
-use Rattle.lines.specs.Numerals.{is_well_formed, within}
-use Rattle.lines.specs.Pieces.{Piece, before, after, placed}
+use Rattle.tokens.specs.Numerals.{is_well_formed, within}
+use Rattle.lines.specs.Pieces.{Piece, placed}
+use Rattle.tokens.specs.Pieces.{before, after, pieces_in}
 use Rattle.lines.specs.Lines.{space, fault_of, or_refuse, follows, puts, through, bare, type_word, other_words, form_of, numbers_of, formed_first, line_of}
 use Rattle.lines.specs.Text.{word, words_of, spaced, text_of}
-use Rattle.lines.proofs.Cuts.{following}
-use Rattle.lines.proofs.Spelling.{written, cut_joined, others_placed}
+use Rattle.tokens.proofs.Numerals.{written}
+use Rattle.lines.proofs.Spelling.{cut_joined, others_placed}
 
 impossible : {A : Type 0} → ◌≡◌ {A = ℕ} 0 1 → A
 impossible z = absurd (omega arith)
@@ -227,7 +228,7 @@ reads_only n at xs f e =
     let a = type_formed (is_well_formed (before space xs)) (through follows Bad n 0 (other_words at xs)) (fault_of Bad n (type_word at xs)) p.0 p.1 in
     let b = type_read (within 47 (before space xs)) (fault_of TooLarge n (type_word at xs)) (λ ty. through puts TooLarge n (bare ty) (other_words at xs)) f p.2 in
     let w = written 47 b.0 (before space xs) (omega arith) a.0 b.1 in
-    let ws = following space (after space xs) in
+    let ws = pieces_in space (after space xs) in
     let o = others_placed at xs in
     let d = from0 n (at + length (before space xs) + 1) p.0 b.0 f ws
     (ap (through follows Bad n 0) (sym o) ∙ a.1, ap (through puts TooLarge n (bare b.0)) (sym o) ∙ b.2) in

@@ -1,11 +1,12 @@
 -- Words that are taken one after the other.
 use Rattle.std.proofs.Common.{◌≡◌, ℕ, ◌+◌, List, ◌∷◌, length, Some, None, Err, Option, sym, refl, ap, ◌∙◌}
 use Rattle.lines.specs.declared.fault.Cause.{Cause}
-use Rattle.lines.specs.Pieces.{before, after, placed}
+use Rattle.lines.specs.Pieces.{placed}
+use Rattle.tokens.specs.Pieces.{before, after, pieces_in}
 use Rattle.lines.specs.Lines.{space, field_words, fault_of, or_refuse, through}
-use Rattle.lines.proofs.Cuts.{following, pieces_first}
+use Rattle.tokens.proofs.Cuts.{pieces_first}
 
-words_after : (end : ℕ) (w : List ℕ) (o : Option (List ℕ)) → placed (end + 1 + length w + 1) (following space o) ≡ field_words (end + 1 + length w) o
+words_after : (end : ℕ) (w : List ℕ) (o : Option (List ℕ)) → placed (end + 1 + length w + 1) (pieces_in space o) ≡ field_words (end + 1 + length w) o
 words_after end w None = refl
 words_after end w (Some ys) = refl
 

@@ -1,4 +1,3 @@
-pub mod Numerals
 pub mod Pieces
 pub mod Refusals
 pub mod Lines

@@ -6,8 +6,9 @@ use Rattle.lines.specs.declared.fault.Cause.{Cause}
 use Rattle.lines.specs.declared.fault.Cause.TheVariants.{Bad, TooLarge}
 use Rattle.lines.specs.declared.fault.WordFault.{WordFault}
 use Rattle.lines.specs.declared.fault.LineFault.{LineFault}
-use Rattle.lines.specs.Numerals.{is_well_formed, within}
-use Rattle.lines.specs.Pieces.{Piece, before, after, pieces, placed}
+use Rattle.tokens.specs.Numerals.{is_well_formed, within}
+use Rattle.lines.specs.Pieces.{Piece, placed}
+use Rattle.tokens.specs.Pieces.{before, after, pieces}
 use Rattle.refusals.specs.Options.{on}
 use Rattle.lines.specs.Refusals.{in_line}
 

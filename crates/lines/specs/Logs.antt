@@ -6,7 +6,7 @@ use Rattle.lines.specs.declared.log.Lines.{Lines}
 use Rattle.lines.specs.declared.fault.LineFault.{LineFault}
 use Rattle.lines.specs.declared.fault.LogFault.{LogFault}
 use Rattle.lines.specs.Lines.{line_of}
-use Rattle.lines.specs.Pieces.{pieces}
+use Rattle.tokens.specs.Pieces.{pieces}
 use Rattle.lines.specs.Refusals.{in_log}
 
 -- a line ends with byte 10

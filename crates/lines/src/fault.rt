@@ -6,7 +6,7 @@ use refusals::{Layer, Place, Refusal, Span};
 use std::fmt;
 
 // What is wrong with a word.
-#[derive(Clone, Copy)]
+#[derive(Clone, Copy, Debug, PartialEq, Eq)]
 pub enum Cause {
     Bad,
     TooLarge,
@@ -38,44 +38,49 @@ impl fmt::Display for Cause {
     ghost output = { λ x. Some (cause_text x) };
 
     fn fmt<W: fmt::Write>(&self, f: &mut fmt::Formatter<W>) -> fmt::Result {
-        match *self {
-            Cause::Bad => f.write_str("bad or missing word"),
-            Cause::TooLarge => f.write_str("number too large"),
-        }
+        f.write_str(self.words())
     }
 }
 
 // A word that cannot be read: its place among the bytes that were handed in, and the number of its line, from 1.
-#[derive(Clone, Copy)]
+#[derive(Clone, Copy, Debug, PartialEq, Eq)]
 pub struct WordFault {
     pub cause: Cause,
     pub span: Span,
     pub line: usize,
 }
 
-impl WordFault {
-    pub fn refusal(&self) -> Refusal
-        ensures { result ≡ word_refusal self.now }
-    {
+impl From<WordFault> for Refusal {
+    ghost from_gives = { λ f r. r ≡ word_refusal f };
+
+    fn from(fault: WordFault) -> Refusal {
         Refusal {
-            number: self.cause.number(),
+            number: fault.cause.number(),
             layer: Layer::Word,
-            place: Place::Bytes(self.span),
+            place: Place::Bytes(fault.span),
         }
     }
 }
 
 // A line that cannot be read, by its word.
-#[derive(Clone, Copy)]
+#[derive(Clone, Copy, Debug, PartialEq, Eq)]
 pub struct LineFault {
     pub word: WordFault,
+}
+
+impl From<LineFault> for Refusal {
+    ghost from_gives = { λ f r. r ≡ line_refusal f };
+
+    fn from(fault: LineFault) -> Refusal {
+        fault.word.into()
+    }
 }
 
 impl LineFault {
     pub fn refusal(&self) -> Refusal
         ensures { result ≡ line_refusal self.now }
     {
-        self.word.refusal()
+        Refusal::from(*self)
     }
 }
 
@@ -88,16 +93,24 @@ impl From<WordFault> for LineFault {
 }
 
 // A log that cannot be read, by its line.
-#[derive(Clone, Copy)]
+#[derive(Clone, Copy, Debug, PartialEq, Eq)]
 pub struct LogFault {
     pub line: LineFault,
+}
+
+impl From<LogFault> for Refusal {
+    ghost from_gives = { λ f r. r ≡ log_refusal f };
+
+    fn from(fault: LogFault) -> Refusal {
+        fault.line.into()
+    }
 }
 
 impl LogFault {
     pub fn refusal(&self) -> Refusal
         ensures { result ≡ log_refusal self.now }
     {
-        self.line.refusal()
+        Refusal::from(*self)
     }
 }
 

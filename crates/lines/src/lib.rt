@@ -1,8 +1,6 @@
 // Events as lines of text, and logs of such lines.
 #![tactic(auto)]
 
-mod digits;
 pub mod fault;
 pub mod line;
 pub mod log;
-mod pieces;

@@ -7,18 +7,20 @@ ghost use Rattle.lines.specs.declared.fault.Cause.TheVariants.{Bad, TooLarge};
 ghost use Rattle.std.specs.Option.{option_map};
 ghost use Rattle.events.specs.Sets.{those_known};
 
-use crate::digits::{is_numeral, value};
 use crate::fault::{Cause, LineFault, WordFault};
-use crate::pieces::cut;
 use events::event::Event;
 use events::fields::Fields;
 use refusals::Span;
+use tokens::numeral::{is_numeral, value};
+use tokens::pieces::cut;
 
 const SPACE: u8 = 32;
 
-const MOST_TYPE: u32 = 47;
+const MOST_TYPE: u64 = 47;
 
-const MOST_STROKES: u32 = 255;
+const MOST_NUMBER: u64 = 4_294_967_295;
+
+const MOST_STROKES: u64 = 255;
 
 // An event that came as a line.
 #[derive(Clone, Copy)]
@@ -175,16 +177,16 @@ fn put_number(fields: Fields, letter: u8, digits: &[u8]) -> Option<Fields>
     ensures { result ≡ puts_number fields letter digits.now }
 {
     match letter {
-        b'p' => match value(digits, u32::MAX) {
+        b'p' => match value(digits, MOST_NUMBER) {
             Some(n) => Some(Fields {
-                player: Some(n),
+                player: Some(n as u32),
                 ..fields
             }),
             None => None,
         },
-        b'c' => match value(digits, u32::MAX) {
+        b'c' => match value(digits, MOST_NUMBER) {
             Some(n) => Some(Fields {
-                card: Some(n),
+                card: Some(n as u32),
                 ..fields
             }),
             None => None,

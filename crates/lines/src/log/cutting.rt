@@ -1,12 +1,13 @@
 // Cutting a log into its lines, and reading them.
 ghost use Rattle.std.specs.Prelude.{◌≡◌};
-ghost use Rattle.lines.specs.Logs.{lines_of, left, first, others, log_line_of};
+ghost use Rattle.std.specs.Iterator.{YieldsFirst, item_count};
+ghost use Rattle.lines.specs.Logs.{lines_of, left, log_line_of};
 
 use crate::fault::LogFault;
 use crate::line::{Line, read_at};
 use crate::log::{Lines, LogLine};
-use crate::pieces::cut;
 use refusals::Span;
+use tokens::pieces::cut;
 
 const NEWLINE: u8 = 10;
 
@@ -31,12 +32,17 @@ impl<'a> Lines<'a> {
             passed: 0,
         }
     }
+}
 
-    // The next line, if there is one.
-    pub fn next(&mut self) -> Option<LogLine>
-        ensures line { result ≡ first (left self.old) }
-        ensures lines { left self.new ≡ others (left self.old) }
-    {
+// The lines that are still to come, one after the other.
+impl<'a> Iterator for Lines<'a> {
+    type Item = LogLine;
+
+    ghost next_gives = { YieldsFirst left };
+
+    ghost remaining = { item_count left };
+
+    fn next(&mut self) -> Option<LogLine> {
         let all = self.rest;
         if all.is_empty() {
             return None;
