@@ -1,8 +1,7 @@
 pub mod Back
 pub mod Exact
 pub mod Known
-pub mod Lengths
 pub mod Numbered
 pub mod Only
 pub mod Spelling
-pub mod Through
+pub mod Cutting

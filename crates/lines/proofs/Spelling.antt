@@ -4,9 +4,10 @@ use Rattle.std.specs.Char.{is_ascii_digit}
 use Rattle.std.proofs.lemmas.Bool.{and_parts, eqb-true, ne_eqb, leb-true}
 use Rattle.tokens.specs.Numerals.{all_digits}
 use Rattle.tokens.proofs.Numerals.{decimal_digits}
-use Rattle.lines.specs.Pieces.{placed}
+use Rattle.std.specs.Option.{option_map}
+use Rattle.lines.specs.Pieces.{placed, cut_in}
 use Rattle.tokens.specs.Pieces.{before, after, longer, pieces, pieces_in}
-use Rattle.lines.specs.Lines.{space, field_words, other_words}
+use Rattle.lines.specs.Lines.{space, other_words}
 use Rattle.lines.specs.Text.{spaced}
 use Rattle.tokens.proofs.Cuts.{pieces_first}
 
@@ -65,6 +66,6 @@ cut_joined xs = subst (Joined xs) (pieces_first space xs) (pieces_joined xs)
 pub others_placed : (at : ℕ) (xs : List ℕ) → other_words at xs ≡ placed (at + length (before space xs) + 1) (pieces_in space (after space xs))
 others_placed at xs = go (after space xs)
   where
-    go : (o : Option (List ℕ)) → field_words (at + length (before space xs)) o ≡ placed (at + length (before space xs) + 1) (pieces_in space o)
+    go : (o : Option (List ℕ)) → cut_in space (option_map (λ ys. record { at = at + length (before space xs) + 1; bytes = ys }) o) ≡ placed (at + length (before space xs) + 1) (pieces_in space o)
     go None = refl
     go (Some ys) = refl

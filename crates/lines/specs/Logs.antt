@@ -6,6 +6,8 @@ use Rattle.lines.specs.declared.log.Lines.{Lines}
 use Rattle.lines.specs.declared.fault.LineFault.{LineFault}
 use Rattle.lines.specs.declared.fault.LogFault.{LogFault}
 use Rattle.lines.specs.Lines.{line_of}
+use Rattle.std.specs.Option.{option_map}
+use Rattle.lines.specs.Pieces.{Piece, piece_of}
 use Rattle.tokens.specs.Pieces.{pieces}
 use Rattle.lines.specs.Refusals.{in_log}
 
@@ -31,9 +33,14 @@ lines_from at n xs = numbered at n (trimmed (pieces newline xs))
 abbrev pub lines_of : List ℕ → List LogLine
 lines_of xs = lines_from 0 0 xs
 
+-- the lines of what is left of a log, if anything is
+abbrev pub lines_in : ℕ → Option Piece → List LogLine
+lines_in n None = []
+lines_in n (Some p) = lines_from p.at n p.bytes
+
 -- the lines that are still to come
 abbrev pub left : Lines → List LogLine
-left l = lines_from l.at l.passed l.rest.now
+left l = lines_in l.passed (option_map piece_of l.rest)
 
 abbrev pub first : List LogLine → Option LogLine
 first [] = None

@@ -50,6 +50,14 @@ pub struct WordFault {
     pub line: usize,
 }
 
+impl fmt::Display for WordFault {
+    ghost output = { λ x. Some (cause_text x.cause) };
+
+    fn fmt<W: fmt::Write>(&self, f: &mut fmt::Formatter<W>) -> fmt::Result {
+        self.cause.fmt(f)
+    }
+}
+
 impl From<WordFault> for Refusal {
     ghost from_gives = { λ f r. r ≡ word_refusal f };
 
@@ -66,6 +74,14 @@ impl From<WordFault> for Refusal {
 #[derive(Clone, Copy, Debug, PartialEq, Eq)]
 pub struct LineFault {
     pub word: WordFault,
+}
+
+impl fmt::Display for LineFault {
+    ghost output = { λ x. Some (cause_text x.word.cause) };
+
+    fn fmt<W: fmt::Write>(&self, f: &mut fmt::Formatter<W>) -> fmt::Result {
+        self.word.fmt(f)
+    }
 }
 
 impl From<LineFault> for Refusal {
@@ -96,6 +112,14 @@ impl From<WordFault> for LineFault {
 #[derive(Clone, Copy, Debug, PartialEq, Eq)]
 pub struct LogFault {
     pub line: LineFault,
+}
+
+impl fmt::Display for LogFault {
+    ghost output = { λ x. Some (cause_text x.line.word.cause) };
+
+    fn fmt<W: fmt::Write>(&self, f: &mut fmt::Formatter<W>) -> fmt::Result {
+        self.line.fmt(f)
+    }
 }
 
 impl From<LogFault> for Refusal {

@@ -4,3 +4,5 @@
 pub mod fault;
 pub mod line;
 pub mod log;
+mod placed;
+mod words;

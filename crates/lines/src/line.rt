@@ -1,23 +1,21 @@
 // Events as lines of text.
-ghost use Rattle.std.specs.Prelude.{◌≡◌, ◌+◌, ◌^◌, ◌<◌, length};
+ghost use Rattle.std.specs.Prelude.{◌≡◌, List, ℕ, Option};
 ghost use Rattle.events.specs.Meanings.{single};
-ghost use Rattle.lines.specs.Lines.{line_of, alone, form_of, numbers_of, fault_of, slot_of, slot_past, follows, puts_number, puts, through, field_words, Fits};
-ghost use Rattle.lines.specs.Text.{Exactly};
-ghost use Rattle.lines.specs.declared.fault.Cause.TheVariants.{Bad, TooLarge};
-ghost use Rattle.std.specs.Option.{option_map};
 ghost use Rattle.events.specs.Sets.{those_known};
+ghost use Rattle.lines.specs.Lines.{line_of, alone, form_of, numbers_of, fault_of, slot_of, follows, puts, through, Computes, words_left};
+ghost use Rattle.lines.specs.Pieces.{piece_of};
+ghost use Rattle.lines.specs.Text.{Exactly};
 
 use crate::fault::{Cause, LineFault, WordFault};
+use crate::placed::Placed;
+use crate::words::{SPACE, Words};
 use events::event::Event;
 use events::fields::Fields;
-use refusals::Span;
 use tokens::numeral::{is_numeral, value};
-use tokens::pieces::cut;
-
-const SPACE: u8 = 32;
 
 const MOST_TYPE: u64 = 47;
 
+// Players and cards are numbers of 32 bits.
 const MOST_NUMBER: u64 = 4_294_967_295;
 
 const MOST_STROKES: u64 = 255;
@@ -34,7 +32,7 @@ impl Line {
         ensures answer { result ≡ alone bytes.now }
         ensures exact { Exactly bytes.now result }
     {
-        read_at(bytes, 0, 1)
+        read_at(Placed { bytes, at: 0 }, 1)
     }
 }
 
@@ -52,35 +50,34 @@ impl Event for Line {
     }
 }
 
-// Reads a line that begins at a place in its log and has a number there.
-pub(crate) fn read_at(bytes: &[u8], at: usize, number: usize) -> Result<Line, LineFault>
-    requires { at + length bytes.now < 2 ^ 64 }
-    ensures { result ≡ line_of number at bytes.now }
+// Reads a line that has its place in a log and a number there.
+pub(crate) fn read_at(line: Placed, number: usize) -> Result<Line, LineFault>
+    ensures { result ≡ line_of number line.entry.at line.entry.bytes.now }
 {
     // Any bad word comes before one whose number is too large.
-    check_form(bytes, at, number)?;
-    let fields = read_numbers(bytes, at, number)?;
+    check_form(line, number)?;
+    let fields = read_numbers(line, number)?;
     Ok(Line { fields })
 }
 
-fn check_form(bytes: &[u8], at: usize, number: usize) -> Result<u8, WordFault>
-    requires { at + length bytes.now < 2 ^ 64 }
-    ensures { result ≡ form_of number at bytes.now }
+// Is the first word a number, and is each other a letter and a number, in the order of the slots? The answer is the slot after the last.
+fn check_form(line: Placed, number: usize) -> Result<u8, WordFault>
+    ensures { result ≡ form_of number line.entry.at line.entry.bytes.now }
 {
-    let (first, rest) = cut(bytes, SPACE);
-    if !is_numeral(first) {
-        return Err(fault(Cause::Bad, number, at, first));
+    let (first, rest) = line.cut(SPACE);
+    if !is_numeral(first.bytes) {
+        return Err(fault(Cause::Bad, number, first));
     }
-    check_words(rest, at + first.len(), number, 0)
+    through(Words(rest), Cause::Bad, number, 0, slot_after)
 }
 
-fn read_numbers(bytes: &[u8], at: usize, number: usize) -> Result<Fields, WordFault>
-    requires { at + length bytes.now < 2 ^ 64 }
-    ensures { result ≡ numbers_of number at bytes.now }
+// The numbers of the words, unless one is too large.
+fn read_numbers(line: Placed, number: usize) -> Result<Fields, WordFault>
+    ensures { result ≡ numbers_of number line.entry.at line.entry.bytes.now }
 {
-    let (first, rest) = cut(bytes, SPACE);
-    let Some(ty) = value(first, MOST_TYPE) else {
-        return Err(fault(Cause::TooLarge, number, at, first));
+    let (first, rest) = line.cut(SPACE);
+    let Some(ty) = value(first.bytes, MOST_TYPE) else {
+        return Err(fault(Cause::TooLarge, number, first));
     };
     let fields = Fields {
         ty: ty as u8,
@@ -88,56 +85,41 @@ fn read_numbers(bytes: &[u8], at: usize, number: usize) -> Result<Fields, WordFa
         card: None,
         strokes: None,
     };
-    read_words(rest, at + first.len(), number, fields)
+    through(Words(rest), Cause::TooLarge, number, fields, put)
 }
 
-// The fault of a word that begins at a place.
-fn fault(cause: Cause, line: usize, at: usize, word: &[u8]) -> WordFault
-    ensures { result ≡ fault_of cause line (record { at = at; bytes = word.now }) }
+fn fault(cause: Cause, line: usize, word: Placed) -> WordFault
+    ensures { result ≡ fault_of cause line (piece_of word.entry) }
 {
-    let span = Span {
-        at,
-        len: word.len(),
-    };
-    WordFault { cause, span, line }
+    WordFault {
+        cause,
+        span: word.span(),
+        line,
+    }
 }
 
-// Are the words well formed, with the letters in their order? Slots below `next` are used up; the word before ends at
-// `end`. The answer is the slot after the last.
-fn check_words(words: Option<&[u8]>, end: usize, number: usize, next: u8) -> Result<u8, WordFault>
-    requires { Fits end (option_map (λ x. x.now) words) }
-    ensures { result ≡ through follows Bad number next (field_words end (option_map (λ x. x.now) words.entry)) }
+// Takes the words of a line one after the other; the first that does not fit is refused.
+fn through<S: Copy, F: Fn(S, &[u8]) -> Option<S>>(
+    words: Words,
+    cause: Cause,
+    line: usize,
+    first: S,
+    step: F,
+) -> Result<S, WordFault>
+    requires { F.IsAlwaysCallable step }
+    ensures { (f : S → List ℕ → Option S) → Computes (F.post step) f → result ≡ through f cause line first (words_left words.entry) }
 {
-    let Some(words) = words else {
-        return Ok(next);
-    };
-    let (word, rest) = cut(words, SPACE);
-    let Some(next) = slot_after(next, word) else {
-        return Err(fault(Cause::Bad, number, end + 1, word));
-    };
-    check_words(rest, end + 1 + word.len(), number, next)
+    let mut state = first;
+    for word in words {
+        let Some(next) = step(state, word.bytes) else {
+            return Err(fault(cause, line, word));
+        };
+        state = next;
+    }
+    Ok(state)
 }
 
-// Puts the words' numbers into the slots of their letters.
-fn read_words(
-    words: Option<&[u8]>,
-    end: usize,
-    number: usize,
-    fields: Fields,
-) -> Result<Fields, WordFault>
-    requires { Fits end (option_map (λ x. x.now) words) }
-    ensures { result ≡ through puts TooLarge number fields (field_words end (option_map (λ x. x.now) words.entry)) }
-{
-    let Some(words) = words else {
-        return Ok(fields);
-    };
-    let (word, rest) = cut(words, SPACE);
-    let Some(fields) = put(fields, word) else {
-        return Err(fault(Cause::TooLarge, number, end + 1, word));
-    };
-    read_words(rest, end + 1 + word.len(), number, fields)
-}
-
+// The slot that a letter names, as a number, since an event is asked for its slots by number.
 fn slot_of(letter: u8) -> Option<u8>
     ensures { result ≡ slot_of letter }
 {
@@ -149,13 +131,14 @@ fn slot_of(letter: u8) -> Option<u8>
     }
 }
 
-// One after the slot that a letter and digits are for, unless that is below `next`.
-fn slot_past(next: u8, letter: u8, digits: &[u8]) -> Option<u8>
-    ensures { result ≡ slot_past next letter digits.now }
+// One after the slot that a word is for, unless that is below `next`.
+fn slot_after(next: u8, word: &[u8]) -> Option<u8>
+    ensures { result ≡ follows next word.now }
 {
-    let Some(slot) = slot_of(letter) else {
+    let [letter, digits @ ..] = word else {
         return None;
     };
+    let slot = slot_of(*letter)?;
     if slot >= next && is_numeral(digits) {
         Some(slot + 1)
     } else {
@@ -163,49 +146,25 @@ fn slot_past(next: u8, letter: u8, digits: &[u8]) -> Option<u8>
     }
 }
 
-fn slot_after(next: u8, word: &[u8]) -> Option<u8>
-    ensures { result ≡ follows next word.now }
-{
-    match word {
-        [letter, digits @ ..] => slot_past(next, *letter, digits),
-        [] => None,
-    }
-}
-
-// The fields with a number in the slot of a letter, unless it is too large.
-fn put_number(fields: Fields, letter: u8, digits: &[u8]) -> Option<Fields>
-    ensures { result ≡ puts_number fields letter digits.now }
-{
-    match letter {
-        b'p' => match value(digits, MOST_NUMBER) {
-            Some(n) => Some(Fields {
-                player: Some(n as u32),
-                ..fields
-            }),
-            None => None,
-        },
-        b'c' => match value(digits, MOST_NUMBER) {
-            Some(n) => Some(Fields {
-                card: Some(n as u32),
-                ..fields
-            }),
-            None => None,
-        },
-        _ => match value(digits, MOST_STROKES) {
-            Some(n) => Some(Fields {
-                strokes: Some(n as u8),
-                ..fields
-            }),
-            None => None,
-        },
-    }
-}
-
+// The fields with a word's number in the slot of its letter, unless it is too large.
 fn put(fields: Fields, word: &[u8]) -> Option<Fields>
     ensures { result ≡ puts fields word.now }
 {
-    match word {
-        [letter, digits @ ..] => put_number(fields, *letter, digits),
-        [] => None,
+    let [letter, digits @ ..] = word else {
+        return None;
+    };
+    match *letter {
+        b'p' => {
+            let player = Some(value(digits, MOST_NUMBER)? as u32);
+            Some(Fields { player, ..fields })
+        }
+        b'c' => {
+            let card = Some(value(digits, MOST_NUMBER)? as u32);
+            Some(Fields { card, ..fields })
+        }
+        _ => {
+            let strokes = Some(value(digits, MOST_STROKES)? as u8);
+            Some(Fields { strokes, ..fields })
+        }
     }
 }

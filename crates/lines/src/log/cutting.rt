@@ -6,8 +6,7 @@ ghost use Rattle.lines.specs.Logs.{lines_of, left, log_line_of};
 use crate::fault::LogFault;
 use crate::line::{Line, read_at};
 use crate::log::{Lines, LogLine};
-use refusals::Span;
-use tokens::pieces::cut;
+use crate::placed::Placed;
 
 const NEWLINE: u8 = 10;
 
@@ -16,7 +15,9 @@ impl LogLine {
     pub fn read(self, log: &[u8]) -> Result<Line, LogFault>
         ensures { result ≡ log_line_of self log.now }
     {
-        let line = read_at(self.span.part(log), self.span.at, self.number)?;
+        let bytes = self.span.part(log);
+        let at = self.span.at;
+        let line = read_at(Placed { bytes, at }, self.number)?;
         Ok(line)
     }
 }
@@ -27,14 +28,12 @@ impl<'a> Lines<'a> {
         ensures { left result ≡ lines_of log.now }
     {
         Lines {
-            rest: log,
-            at: 0,
+            rest: Some(Placed { bytes: log, at: 0 }),
             passed: 0,
         }
     }
 }
 
-// The lines that are still to come, one after the other.
 impl<'a> Iterator for Lines<'a> {
     type Item = LogLine;
 
@@ -43,18 +42,13 @@ impl<'a> Iterator for Lines<'a> {
     ghost remaining = { item_count left };
 
     fn next(&mut self) -> Option<LogLine> {
-        let all = self.rest;
-        if all.is_empty() {
+        let rest = self.rest?;
+        if rest.bytes.is_empty() {
             return None;
         }
-        let (line, more) = cut(all, NEWLINE);
-        let span = Span {
-            at: self.at,
-            len: line.len(),
-        };
+        let (line, rest) = rest.cut(NEWLINE);
+        let span = line.span();
         let number = self.passed + 1;
-        let rest = more.unwrap_or(&all[all.len()..]);
-        self.at += all.len() - rest.len();
         self.rest = rest;
         self.passed = number;
         Some(LogLine { span, number })

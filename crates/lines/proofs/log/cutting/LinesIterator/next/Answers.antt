@@ -1,17 +1,20 @@
-use Rattle.std.proofs.Common.{◌≡◌, ◌+◌, length, sym, ap, ◌∙◌, arith, rules}
+use Rattle.std.proofs.Common.{◌≡◌, ◌+◌, ◌<◌, ◌∷◌, length, Some, sym, ap, ◌∙◌, arith, rules}
 use Rattle.std.specs.Option.{option_map}
-use Rattle.std.proofs.lemmas.List.{places}
-use Rattle.lines.specs.Logs.{first, others}
-use Rattle.lines.proofs.Numbered.{or_nil, or_nil_now, cases_now, next_line}
+use Rattle.lines.specs.Logs.{lines_in}
+use Rattle.lines.specs.Pieces.{piece_of}
+use Rattle.lines.proofs.Numbered.{lines_first}
 use Rattle.lines.proofs.log.cutting.LinesIterator.next.Goals as goal
 
 pub returns-clause-steps : goal.returns-clause-steps
 returns-clause-steps c =
-    let all = c.args.self.now.rest.now in
-    let q : c.unwrap_or-rest.result.now ≡ or_nil (option_map (λ x. x.now) c.cut.result.1) =
-    ap (λ x. x.now) c.unwrap_or-rest.ensures ∙ or_nil_now c.cut.result.1 _ (search (rules, places)) in
-    let g = cases_now c.cut.result.1 (length c.cut.result.0.now ≡ length all) (λ ys. length c.cut.result.0.now + 1 + length ys ≡ length all) c.cut.ensures.lengths in
-    next_line c.args.self.now.at c.args.self.now.passed all c.cut.result.0.now c.unwrap_or-rest.result.now (option_map (λ x. x.now) c.cut.result.1) (search rules) c.cut.ensures.first c.cut.ensures.rest g q
+    let rest = c.in_ok-rest.rest in
+    let e : c.args.self.now.rest ≡ Some rest = search rules in
+    let h : 0 < length rest.bytes.now = search rules in
+    rw c.span-span.ensures (
+    ap (λ o. lines_in c.args.self.now.passed (option_map piece_of o)) e
+    ∙ lines_first c.args.self.now.passed (piece_of rest) h
+    ∙ (λ i. record { span = record { at = (sym c.cut.ensures.first i).at; len = length (sym c.cut.ensures.first i).bytes }; number = c.args.self.now.passed + 1 } ∷ lines_in (c.args.self.now.passed + 1) (sym c.cut.ensures.rest i))
+    )
 
 pub returns-clause-goes : goal.returns-clause-goes
 returns-clause-goes c = let e = ap length (returns-clause-steps c) in record { on = λ f. (tt, tt, omega (arith, e)); keeps = tt; rests = λ f. tt }
