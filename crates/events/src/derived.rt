@@ -80,8 +80,8 @@ impl<E: Event> Event for Derived<E> {
     fn is_of(&self, ty: u8) -> bool {
         match self.entries.entry_for(ty) {
             Entry::Absent => self.below.is_of(ty),
-            Entry::AnyOf(set) => types_among(&self.below, set).bits != 0,
-            Entry::NoneOf(set) => types_among(&self.below, set).bits == 0,
+            Entry::AnyOf(set) => !types_among(&self.below, set).is_empty(),
+            Entry::NoneOf(set) => types_among(&self.below, set).is_empty(),
         }
     }
 

@@ -3,6 +3,9 @@ ghost use Rattle.std.specs.Prelude.{◌≡◌};
 ghost use Rattle.events.specs.Types.{has};
 ghost use Rattle.events.specs.Meanings.{single, in_slot};
 
+// The highest type that a record or a line can carry.
+pub const MOST_TYPE: u8 = 47;
+
 // One type, and three slots of which some are filled.
 #[derive(Clone, Copy, Debug, PartialEq, Eq)]
 pub struct Fields {

@@ -24,7 +24,7 @@ pub fn noted<E: Event>(event: &E) -> Meaning
     ensures { result ≡ E.meaning event.now }
 {
     Meaning {
-        types: types_among(event, TypeSet { bits: u64::MAX }),
+        types: types_among(event, TypeSet::ALL),
         player: event.slot(0),
         card: event.slot(1),
         strokes: event.slot(2),

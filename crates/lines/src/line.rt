@@ -10,15 +10,8 @@ use crate::fault::{Cause, LineFault, WordFault};
 use crate::placed::Placed;
 use crate::words::{SPACE, Words};
 use events::event::Event;
-use events::fields::Fields;
+use events::fields::{Fields, MOST_TYPE};
 use tokens::numeral::{is_numeral, value};
-
-const MOST_TYPE: u64 = 47;
-
-// Players and cards are numbers of 32 bits.
-const MOST_NUMBER: u64 = 4_294_967_295;
-
-const MOST_STROKES: u64 = 255;
 
 // An event that came as a line.
 #[derive(Clone, Copy)]
@@ -36,6 +29,7 @@ impl Line {
     }
 }
 
+// Records have the same lines: by a rule of the project each kind of event has the interface itself.
 impl Event for Line {
     ghost meaning = { λ x. single x.fields };
 
@@ -76,9 +70,7 @@ fn read_numbers(line: Placed, number: usize) -> Result<Fields, WordFault>
     ensures { result ≡ numbers_of number line.entry.at line.entry.bytes.now }
 {
     let (first, rest) = line.cut(SPACE);
-    let Some(ty) = value(first.bytes, MOST_TYPE) else {
-        return Err(fault(Cause::TooLarge, number, first));
-    };
+    let ty = value(first.bytes, u64::from(MOST_TYPE)).ok_or(fault(Cause::TooLarge, number, first))?;
     let fields = Fields {
         ty: ty as u8,
         player: None,
@@ -111,10 +103,7 @@ fn through<S: Copy, F: Fn(S, &[u8]) -> Option<S>>(
 {
     let mut state = first;
     for word in words {
-        let Some(next) = step(state, word.bytes) else {
-            return Err(fault(cause, line, word));
-        };
-        state = next;
+        state = step(state, word.bytes).ok_or(fault(cause, line, word))?;
     }
     Ok(state)
 }
@@ -155,15 +144,15 @@ fn put(fields: Fields, word: &[u8]) -> Option<Fields>
     };
     match *letter {
         b'p' => {
-            let player = Some(value(digits, MOST_NUMBER)? as u32);
+            let player = Some(value(digits, u64::from(u32::MAX))? as u32);
             Some(Fields { player, ..fields })
         }
         b'c' => {
-            let card = Some(value(digits, MOST_NUMBER)? as u32);
+            let card = Some(value(digits, u64::from(u32::MAX))? as u32);
             Some(Fields { card, ..fields })
         }
         _ => {
-            let strokes = Some(value(digits, MOST_STROKES)? as u8);
+            let strokes = Some(value(digits, u64::from(u8::MAX))? as u8);
             Some(Fields { strokes, ..fields })
         }
     }

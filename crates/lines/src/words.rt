@@ -6,7 +6,7 @@ ghost use Rattle.lines.specs.Pieces.{piece_of};
 use crate::placed::Placed;
 
 // Words stand between single spaces.
-pub(crate) const SPACE: u8 = 32;
+pub(crate) const SPACE: u8 = b' ';
 
 // The words of what is left of a line, if anything is.
 #[derive(Drop)]

@@ -9,15 +9,13 @@ ghost use Rattle.records.specs.Records.{record_of, record_refusal, fields_of, an
 
 use crate::field::field;
 use events::event::Event;
-use events::fields::Fields;
+use events::fields::{Fields, MOST_TYPE};
 use refusals::{Layer, Place, Refusal, Span};
 
 mod field;
 
 // A map announces the player by bit 0, the card by bit 1 and the strokes by bit 2.
 const MOST_MAP: u8 = 7;
-
-const MOST_TYPE: u8 = 47;
 
 // An event that came as a record.
 #[derive(Clone, Copy, Debug, PartialEq, Eq)]
@@ -68,6 +66,7 @@ impl Record {
     }
 }
 
+// Lines have the same lines: by a rule of the project each kind of event has the interface itself.
 impl Event for Record {
     ghost meaning = { λ x. single x.fields };
 

@@ -8,7 +8,7 @@ use crate::line::{Line, read_at};
 use crate::log::{Lines, LogLine};
 use crate::placed::Placed;
 
-const NEWLINE: u8 = 10;
+const NEWLINE: u8 = b'\n';
 
 impl LogLine {
     // Reads the line out of its log.
