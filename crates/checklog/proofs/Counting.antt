@@ -18,16 +18,23 @@ pub record Counting (log : List ℕ) (ls : List LogLine) (n : ℕ) (counts : Lis
   pub each : (t : ℕ) → t < 48 → get_or counts t 0 + of_type t (readable log ls) ≡ of_type t (readable log (lines_of log))
   pub fault : first_fault log ls ≡ first_fault log (lines_of log)
 
+-- a line that was read has a type of a line
+pub known : (log : List ℕ) (l : LogLine) (x : Line) → Ok x ≡ log_line_of l log → x.fields.ty ≤ 47
+known log l x e = IfOk-at_ok (λ y. y.fields.ty ≤ 47) (sym e) (log_line_known l log)
+
 -- a line that was read: one line more, and one event more of its type
-pub counted : (log : List ℕ) (l : LogLine) (ls : List LogLine) (x : Line) (n : ℕ) (counts : List ℕ) → Ok x ≡ log_line_of l log → x.fields.ty ≤ 47
+counted_at : (log : List ℕ) (l : LogLine) (ls : List LogLine) (x : Line) (n : ℕ) (counts : List ℕ) → Ok x ≡ log_line_of l log
     → Counting log (l ∷ ls) n counts → Counting log ls (n + 1) (set counts x.fields.ty (get_or counts x.fields.ty 0 + 1))
-counted log l ls x n counts e k h = record {
+counted_at log l ls x n counts e h = record {
   size = length-set counts x.fields.ty _ ∙ h.size;
   lines = omega (arith, ap length more, h.lines);
   each = λ t q. step t q (eqb x.fields.ty t) refl;
   fault = sym (ap (λ r. onward r (λ y. first_fault log ls) (λ f. Some f)) (sym e)) ∙ h.fault;
 }
   where
+    k : x.fields.ty ≤ 47
+    k = known log l x e
+
     more : readable log (l ∷ ls) ≡ x ∷ readable log ls
     more = ap (λ r. onward r (λ y. y ∷ readable log ls) (λ f. [])) (sym e)
 
@@ -46,6 +53,10 @@ counted log l ls x n counts e k h = record {
         let m : of_type t (readable log (l ∷ ls)) ≡ 0 + of_type t (readable log ls) = ap (of_type t) more ∙ rw w in
         let a : get_or counts t 0 + of_type t (readable log (l ∷ ls)) ≡ of_type t (readable log (lines_of log)) = h.each t q in
         omega arith
+
+pub counted : (log : List ℕ) (ls rest : List LogLine) (l : LogLine) (x : Line) (n : ℕ) (counts : List ℕ) → ls ≡ l ∷ rest → Ok x ≡ log_line_of l log
+    → Counting log ls n counts → Counting log rest (n + 1) (set counts x.fields.ty (get_or counts x.fields.ty 0 + 1))
+counted log ls rest l x n counts q e h = counted_at log l rest x n counts e (subst (λ (ms : List LogLine). Counting log ms n counts) q h)
 
 -- no line was read yet
 pub begun : (log : List ℕ) (counts : List ℕ) → counts ≡ replicate 48 0 → Counting log (lines_of log) 0 counts
@@ -73,19 +84,13 @@ readable_few log (l ∷ ls) = go (log_line_of l log) (readable_few log ls)
     go (Ok x) h = omega arith
     go (Err f) h = omega arith
 
-pub room : (log : List ℕ) (l : LogLine) (ls : List LogLine) (x : Line) (n : ℕ) (counts : List ℕ) → Ok x ≡ log_line_of l log → x.fields.ty ≤ 47
-    → Counting log (l ∷ ls) n counts → (n + 1 ≤ length log) × (get_or counts x.fields.ty 0 + 1 ≤ length log)
-room log l ls x n counts e k h =
-    let d = counted log l ls x n counts e k h in
+pub room : (log : List ℕ) (ls rest : List LogLine) (l : LogLine) (x : Line) (n : ℕ) (counts : List ℕ) → ls ≡ l ∷ rest → Ok x ≡ log_line_of l log
+    → Counting log ls n counts → (n + 1 ≤ length log) × (get_or counts x.fields.ty 0 + 1 ≤ length log)
+room log ls rest l x n counts q e h =
+    let d = counted log ls rest l x n counts q e h in
+    let k = known log l x e in
     let i : x.fields.ty < length counts = omega (arith, h.size) in
     let g : get_or (set counts x.fields.ty (get_or counts x.fields.ty 0 + 1)) x.fields.ty 0 ≡ get_or counts x.fields.ty 0 + 1 = get_or-set_same counts x.fields.ty _ 0 i in
     let few = lines_few log in
     let few' = readable_few log (lines_of log) in
     (omega (arith, d.lines), omega (arith, d.each x.fields.ty (omega arith), of_type_few x.fields.ty (readable log (lines_of log))))
-
-pub known : (log : List ℕ) (l : LogLine) (x : Line) → Ok x ≡ log_line_of l log → x.fields.ty ≤ 47
-known log l x e = IfOk-at_ok (λ y. y.fields.ty ≤ 47) (sym e) (log_line_known l log)
-
--- the line that comes next
-pub at_line : (log : List ℕ) (ls rest : List LogLine) (l : LogLine) (n : ℕ) (counts : List ℕ) → ls ≡ l ∷ rest → Counting log ls n counts → Counting log (l ∷ rest) n counts
-at_line log ls rest l n counts e h = subst (λ (ms : List LogLine). Counting log ms n counts) e h

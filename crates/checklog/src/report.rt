@@ -1,75 +1,96 @@
 // What is printed of a survey.
-ghost use Rattle.std.specs.Prelude.{◌≡◌, ◌++◌, IfOk, string_bytes, OnOk};
-ghost use Rattle.checklog.specs.Report.{type_text, counts_text, line_text, why_text, place_text, fault_text, report_text};
+ghost use Rattle.std.specs.Prelude.{Some};
+ghost use Rattle.checklog.specs.Report.{type_text, counts_text, fault_in, report_text};
 
-use crate::survey::{Survey, TYPES};
-use lines::fault::{Cause, LogFault};
-use refusals::Layer;
+use crate::survey::Survey;
+use lines::fault::LogFault;
+use refusals::Refusal;
 use refusals::text::Quoted;
-use std::alloc::{AllocError, Global};
+use std::fmt;
+
+// How many events of a type there were; a type that no event has is left out.
+#[derive(Clone, Copy)]
+struct Count {
+    ty: usize,
+    events: usize,
+}
+
+impl fmt::Display for Count {
+    ghost output = { λ x. Some (type_text x.ty x.events) };
+
+    fn fmt<W: fmt::Write>(&self, f: &mut fmt::Formatter<W>) -> fmt::Result {
+        match *self {
+            Count { events: 0, .. } => Ok(()),
+            Count { ty, events } => writeln!(f, "type {ty}: {events}"),
+        }
+    }
+}
+
+// How many events of each type there were.
+#[derive(Clone, Copy)]
+struct Counts<'a>(&'a [usize]);
+
+impl fmt::Display for Counts<'_> {
+    ghost output = { λ x. Some (counts_text 0 x.0.now) };
+
+    fn fmt<W: fmt::Write>(&self, f: &mut fmt::Formatter<W>) -> fmt::Result {
+        for (ty, events) in self.0.iter().enumerate() {
+            let count = Count {
+                ty,
+                events: *events,
+            };
+            write!(f, "{count}")?;
+        }
+        Ok(())
+    }
+}
+
+// Where in the log the reading stopped, and why, if it did.
+#[derive(Clone, Copy)]
+struct Stop<'a> {
+    log: &'a [u8],
+    fault: Option<LogFault>,
+}
+
+impl fmt::Display for Stop<'_> {
+    ghost output = { λ x. Some (fault_in x.log.now x.fault) };
+
+    fn fmt<W: fmt::Write>(&self, f: &mut fmt::Formatter<W>) -> fmt::Result {
+        let Some(fault) = self.fault else {
+            return Ok(());
+        };
+        let Refusal { number, layer, .. } = fault.into();
+        let word = fault.line.word;
+        let line = word.line;
+        let bytes = Quoted(word.span.part(self.log));
+        let at = word.span.at;
+        // Not the message of a refusal, which leaves out the number of a line 0.
+        writeln!(
+            f,
+            "line {line}: refused {number} {layer}: {fault} {bytes} at byte {at}"
+        )
+    }
+}
 
 // How many lines were read, how many events of each type there were, and then the fault, if there was one.
-pub fn report(heap: Global, log: &[u8], survey: &Survey) -> Result<String, AllocError>
-    ensures { IfOk result (λ s. string_bytes s ≡ report_text log.now survey.now) }
-{
-    let lines = survey.lines;
-    let mut text = format!(in heap; "lines {lines}\n")?;
-    push_counts(heap, &mut text, &survey.counts)?;
-    if let Some(fault) = &survey.fault {
-        text.push_str(fault_line(heap, log, fault)?.as_str())?;
+#[derive(Clone, Copy)]
+pub struct Report<'a> {
+    pub log: &'a [u8],
+    pub survey: &'a Survey,
+}
+
+impl fmt::Display for Report<'_> {
+    ghost output = { λ x. Some (report_text x.log.now x.survey.now) };
+
+    fn fmt<W: fmt::Write>(&self, f: &mut fmt::Formatter<W>) -> fmt::Result {
+        let lines = self.survey.lines;
+        let counts = Counts(&self.survey.counts);
+        let stop = Stop {
+            log: self.log,
+            fault: self.survey.fault,
+        };
+        write!(f, "lines {lines}\n{counts}{stop}")
     }
-    Ok(text)
-}
-
-fn push_counts(heap: Global, text: &mut String, counts: &[usize; TYPES]) -> Result<(), AllocError>
-    ensures { OnOk result (string_bytes text.new ≡ string_bytes text.old ++ counts_text 0 counts.now) }
-{
-    for (ty, count) in counts.iter().enumerate() {
-        push_count(heap, text, ty, *count)?;
-    }
-    Ok(())
-}
-
-// Types that no event has are left out.
-fn push_count(heap: Global, text: &mut String, ty: usize, count: usize) -> Result<(), AllocError>
-    ensures { OnOk result (string_bytes text.new ≡ string_bytes text.old ++ type_text ty count) }
-{
-    if count > 0 {
-        let line = format!(in heap; "type {ty}: {count}\n")?;
-        text.push_str(line.as_str())?;
-    }
-    Ok(())
-}
-
-// Where the reading stopped, and why.
-fn fault_line(heap: Global, log: &[u8], fault: &LogFault) -> Result<String, AllocError>
-    ensures { IfOk result (λ s. string_bytes s ≡ fault_text log.now fault.now) }
-{
-    let word = fault.line.word;
-    let refusal = fault.refusal();
-    let mut text = line_text(heap, word.line, refusal.number)?;
-    text.push_str(cause_text(heap, refusal.layer, word.cause)?.as_str())?;
-    text.push_str(Quoted(word.span.part(log)).to_string(heap)?.as_str())?;
-    text.push_str(place_text(heap, word.span.at)?.as_str())?;
-    Ok(text)
-}
-
-fn line_text(heap: Global, line: usize, number: u8) -> Result<String, AllocError>
-    ensures { IfOk result (λ s. string_bytes s ≡ line_text line number) }
-{
-    format!(in heap; "line {line}: refused {number} ")
-}
-
-fn cause_text(heap: Global, layer: Layer, cause: Cause) -> Result<String, AllocError>
-    ensures { IfOk result (λ s. string_bytes s ≡ why_text layer cause) }
-{
-    format!(in heap; "{layer}: {cause} ")
-}
-
-fn place_text(heap: Global, at: usize) -> Result<String, AllocError>
-    ensures { IfOk result (λ s. string_bytes s ≡ place_text at) }
-{
-    format!(in heap; " at byte {at}\n")
 }
 
 #[cfg(test)]
@@ -80,9 +101,13 @@ mod tests {
     #[test]
     fn line_that_cannot_be_read(rt: HostRuntime) -> Result<(), Fail> {
         let log = b"1 c7\n2 p3 c07\n1 c8\n";
-        let text = report(rt.alloc(), log, &Survey::of(log))?;
+        let survey = Survey::of(log);
+        let report = Report {
+            log,
+            survey: &survey,
+        };
         assert_eq!(rt;
-            text.as_str(),
+            report.to_string(rt.alloc())?.as_str(),
             "lines 1\ntype 1: 1\nline 2: refused 12 word: bad or missing word \"c07\" at byte 10\n"
         );
         Ok(())

@@ -19,27 +19,23 @@ impl Survey {
     pub fn of(log: &[u8]) -> Survey
         ensures { Surveyed log.now result }
     {
-        let mut lines = 0;
-        let mut counts = [0; TYPES];
+        let mut survey = Survey {
+            lines: 0,
+            counts: [0; TYPES],
+            fault: None,
+        };
         for line in Lines::of(log) {
             match line.read(log) {
                 Ok(event) => {
-                    counts[event.fields.ty as usize] += 1;
-                    lines += 1;
+                    survey.counts[usize::from(event.fields.ty)] += 1;
+                    survey.lines += 1;
                 }
                 Err(fault) => {
-                    return Survey {
-                        lines,
-                        counts,
-                        fault: Some(fault),
-                    };
+                    survey.fault = Some(fault);
+                    return survey;
                 }
             }
         }
-        Survey {
-            lines,
-            counts,
-            fault: None,
-        }
+        survey
     }
 }

@@ -17,12 +17,7 @@ mod tests {
     type Answers = (Option<u8>, Option<u32>, Option<u32>, Option<u32>);
 
     fn answers<E: Event>(event: &E) -> Answers {
-        let mut ty = None;
-        for t in 0..=255u8 {
-            if event.is_of(t) {
-                ty = Some(t);
-            }
-        }
+        let ty = (0..=255u8).rev().find(|ty| event.is_of(*ty));
         (ty, event.slot(0), event.slot(1), event.slot(2))
     }
 
@@ -34,18 +29,21 @@ mod tests {
         }
     }
 
-    fn line(text: &[u8]) -> Result<Answers, (u8, usize, usize)> {
-        match Line::read(text) {
-            Ok(line) => Ok(answers(&line)),
-            Err(fault) => Err(place(fault.refusal())),
+    fn told<E: Event + Drop, X: Into<Refusal>>(
+        read: Result<E, X>,
+    ) -> Result<Answers, (u8, usize, usize)> {
+        match read {
+            Ok(event) => Ok(answers(&event)),
+            Err(fault) => Err(place(fault.into())),
         }
     }
 
+    fn line(text: &[u8]) -> Result<Answers, (u8, usize, usize)> {
+        told(Line::read(text))
+    }
+
     fn record(bytes: &[u8]) -> Result<Answers, (u8, usize, usize)> {
-        match Record::read(bytes) {
-            Ok(record) => Ok(answers(&record)),
-            Err(fault) => Err(place(fault.refusal())),
-        }
+        told(Record::read(bytes))
     }
 
     #[test]
@@ -129,18 +127,15 @@ mod tests {
 
     #[test]
     fn derived_types(rt: HostRuntime) -> Result<(), Fail> {
-        let mut list = [Entry::Absent; 16];
-        list[0] = Entry::AnyOf(TypeSet { bits: 6 });
-        list[1] = Entry::NoneOf(TypeSet { bits: 6 });
-        let mut again = [Entry::Absent; 16];
-        again[15] = Entry::AnyOf(TypeSet { bits: 1 << 48 });
         let Ok(below) = Line::read(b"2 c9") else {
             return Err(Fail::new("not read"));
         };
-        let entries = Entries { list };
+        let entries = Entries::NONE
+            .with(48, Entry::AnyOf(TypeSet { bits: 6 }))
+            .with(49, Entry::NoneOf(TypeSet { bits: 6 }));
         let first = Derived { below, entries };
         assert_eq!(rt; noted(&first).types.bits, (1 << 2) + (1 << 48));
-        let entries = Entries { list: again };
+        let entries = Entries::NONE.with(63, Entry::AnyOf(TypeSet { bits: 1 << 48 }));
         let second = Derived {
             below: first,
             entries,
@@ -153,14 +148,10 @@ mod tests {
     // The places of the lines of a log, at most three of them, and how many there are.
     fn cut(log: &[u8]) -> (usize, [(usize, usize); 3]) {
         let mut found = [(0, 0); 3];
-        let mut lines = Lines::of(log);
-        for i in 0..3 {
-            let Some(line) = lines.next() else {
-                return (i, found);
-            };
-            found[i] = (line.span.at, line.span.len);
+        for (place, line) in found.iter_mut().zip(Lines::of(log)) {
+            *place = (line.span.at, line.span.len);
         }
-        (3, found)
+        (Lines::of(log).take(3).count(), found)
     }
 
     #[test]
