@@ -12,8 +12,7 @@ use Rattle.rules.specs.Layout.{blank}
 use Rattle.checking.specs.Nodes.{node_at}
 use Rattle.checking.specs.Answer.{rank, free, on_loop, heavy, first, misplaced, is_free_at_start, refusing, assessed, answer_of}
 use Rattle.rules.specs.declared.node.Var.TheVariants.{V0, V1, V2, V3}
-use Rattle.checking.specs.declared.set.FreeSets.{FreeSets}
-use Rattle.checking.specs.FreeSets.{is_free, passed, implies}
+use Rattle.checking.specs.FreeSets.{FreeSets, is_free, passed, implies}
 use Rattle.std.proofs.lemmas.List.{get_or_past}
 use Rattle.rules.specs.declared.record.NodeRecord.{NodeRecord}
 use Rattle.checking.specs.declared.fault.CheckFault.TheVariants.{Loop, TooHeavy, FreeAtStart}

@@ -2,7 +2,7 @@
 ghost use Rattle.std.specs.Prelude.{◌≡◌, ◌||◌, Ok, Err, Result, MatchResult};
 ghost use Rattle.rules.specs.declared.node.Var.TheVariants.{V0, V1, V2, V3};
 ghost use Rattle.checking.specs.Links.{node, Ranged};
-ghost use Rattle.checking.specs.FreeSets.{is_free};
+ghost use Rattle.checking.specs.FreeSets.{is_free as free_in};
 ghost use Rattle.checking.specs.Answer.{assessed, answer_of};
 ghost use Rattle.checking.specs.Meaning.{Says, Alone};
 ghost use Rattle.checking.specs.Made.{Facts, Made};
@@ -12,19 +12,19 @@ use crate::free::free_sets;
 use crate::graph::{lowest_on_loop, nodes_of, ranks, reaches};
 use crate::links::Links;
 use crate::rule::Rule;
-use crate::set::FreeSets;
+use crate::set::{FreeSets, is_free};
 use crate::weight::lowest_too_heavy;
 use rules::node::{Node, Var};
 use rules::record::{MOST_NODES, NodeRecord};
 
 // Whether a variable is free in node 0.
 fn open_at_start(free: &FreeSets) -> bool
-    ensures { result ≡ (is_free free.now V0 0 || (is_free free.now V1 0 || (is_free free.now V2 0 || is_free free.now V3 0))) }
+    ensures { result ≡ (free_in free.now V0 0 || (free_in free.now V1 0 || (free_in free.now V2 0 || free_in free.now V3 0))) }
 {
-    free.is_free(Var::V0, 0)
-        || free.is_free(Var::V1, 0)
-        || free.is_free(Var::V2, 0)
-        || free.is_free(Var::V3, 0)
+    is_free(free, Var::V0, 0)
+        || is_free(free, Var::V1, 0)
+        || is_free(free, Var::V2, 0)
+        || is_free(free, Var::V3, 0)
 }
 
 // Free variables and ranks, unless the nodes are no rule.

@@ -1,9 +1,9 @@
 // The nodes in which a variable is free.
 ghost use Rattle.std.specs.Prelude.{◌≡◌, ℕ, ◌<◌, ◌&&◌, ◌||◌, ◌==◌};
 ghost use Rattle.rules.specs.declared.node.Var.{Var as V};
+ghost use Rattle.rules.specs.ByVar.{at};
 ghost use Rattle.checking.specs.Sets.{holds};
 ghost use Rattle.checking.specs.Links.{node, names as names_of, Ranged};
-ghost use Rattle.checking.specs.FreeSets.{set_of};
 ghost use Rattle.checking.specs.Answer.{free as free_in};
 
 use crate::graph::reaches;
@@ -51,11 +51,7 @@ fn free_in(v: Var, nodes: &[Node; MOST_NODES]) -> NodeSet
 // The same for each variable.
 pub(crate) fn free_sets(nodes: &[Node; MOST_NODES]) -> FreeSets
     requires { Ranged (node nodes.now) }
-    ensures { (v : V) (n : ℕ) → n < 128 → holds (set_of result v) n ≡ free_in (node nodes.now) v n }
+    ensures { (v : V) (n : ℕ) → n < 128 → holds (at result v) n ≡ free_in (node nodes.now) v n }
 {
-    let v0 = free_in(Var::V0, nodes);
-    let v1 = free_in(Var::V1, nodes);
-    let v2 = free_in(Var::V2, nodes);
-    let v3 = free_in(Var::V3, nodes);
-    FreeSets { v0, v1, v2, v3 }
+    FreeSets::from_fn(|v| free_in(v, nodes))
 }

@@ -1,8 +1,9 @@
 // Sets of nodes.
 ghost use Rattle.std.specs.Prelude.{◌≡◌, ℕ, ◌<◌, false, ◌&&◌, ◌||◌, ◌==◌};
 ghost use Rattle.checking.specs.Sets.{holds, count as count_of, any_below};
-ghost use Rattle.checking.specs.FreeSets.{set_of, is_free};
+ghost use Rattle.checking.specs.FreeSets.{is_free};
 
+use rules::by_var::ByVar;
 use rules::node::Var;
 use rules::record::MOST_NODES;
 
@@ -68,30 +69,11 @@ impl NodeSet {
 }
 
 // For each variable the nodes in which it is free.
-#[derive(Clone, Copy)]
-pub struct FreeSets {
-    pub v0: NodeSet,
-    pub v1: NodeSet,
-    pub v2: NodeSet,
-    pub v3: NodeSet,
-}
+pub type FreeSets = ByVar<NodeSet>;
 
-impl FreeSets {
-    fn of(&self, v: Var) -> NodeSet
-        ensures { result ≡ set_of self.now v }
-    {
-        match v {
-            Var::V0 => self.v0,
-            Var::V1 => self.v1,
-            Var::V2 => self.v2,
-            Var::V3 => self.v3,
-        }
-    }
-
-    // Whether a variable is free in a node; in none past the last.
-    pub(crate) fn is_free(&self, v: Var, n: u8) -> bool
-        ensures { result ≡ is_free self.now v n }
-    {
-        (n as usize) < MOST_NODES && self.of(v).has(n as usize)
-    }
+// Whether a variable is free in a node; in none past the last.
+pub(crate) fn is_free(free: &FreeSets, v: Var, n: u8) -> bool
+    ensures { result ≡ is_free free.now v n }
+{
+    (n as usize) < MOST_NODES && free.get(v).has(n as usize)
 }

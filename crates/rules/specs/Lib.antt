@@ -3,6 +3,6 @@ pub mod Bytes
 pub mod Writing
 pub mod Refusals
 pub mod Vars
+pub mod ByVar
+pub mod Text
 pub mod Spans
-pub mod Ops
-pub mod Numbers

@@ -42,13 +42,7 @@ pub(crate) fn announces(map: u8, field: u8) -> bool
 fn var(n: u32) -> Option<Var>
     ensures { result ≡ var_of n }
 {
-    match n {
-        0 => Some(Var::V0),
-        1 => Some(Var::V1),
-        2 => Some(Var::V2),
-        3 => Some(Var::V3),
-        _ => None,
-    }
+    Var::try_from(n).ok()
 }
 
 fn slot(there: bool, f: SlotField) -> Option<Slot>

@@ -1,6 +1,7 @@
 // Rules: the words that code and mathematics share, how bytes lay a rule out, and reading them.
 #![tactic(auto)]
 
+pub mod by_var;
 pub mod fault;
 pub mod layout;
 pub mod node;
@@ -8,3 +9,4 @@ pub mod read;
 pub mod record;
 pub mod span;
 pub mod substitution;
+pub mod text;
