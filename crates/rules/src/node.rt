@@ -11,6 +11,10 @@ pub enum Var {
     V3,
 }
 
+impl Var {
+    pub const ALL: [Var; 4] = [Var::V0, Var::V1, Var::V2, Var::V3];
+}
+
 // A number that no variable has.
 #[derive(Clone, Copy, PartialEq, Eq)]
 pub struct UnknownVar(pub u32);
