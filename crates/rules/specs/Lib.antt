@@ -1,3 +1,5 @@
+pub mod Map
+pub mod Kinds
 pub mod Layout
 pub mod Bytes
 pub mod Writing

@@ -3,7 +3,10 @@
 
 pub mod by_var;
 pub mod fault;
+mod fields;
+pub mod kind;
 pub mod layout;
+pub mod map;
 pub mod node;
 pub mod read;
 pub mod record;
