@@ -74,7 +74,7 @@ pub(crate) fn target_set(which: Links, n: &Node) -> NodeSet
     ensures { (j : ℕ) → holds result j ≡ link which n.now j }
 {
     match targets(which, n) {
-        Children::None => NodeSet::none(),
+        Children::None => NodeSet::NONE,
         Children::One(c) => NodeSet::one(c as usize),
         Children::Two(a, b) => NodeSet::one(a as usize).join(NodeSet::one(b as usize)),
     }

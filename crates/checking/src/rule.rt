@@ -48,7 +48,7 @@ impl Rule {
         Rule {
             count: 1,
             nodes: [Node::Empty; MOST_NODES],
-            free: FreeSets::all(NodeSet { bits: 0 }),
+            free: FreeSets::all(NodeSet::NONE),
             rank: [0; MOST_NODES],
         }
     }
@@ -79,21 +79,14 @@ impl Rule {
     pub fn rank(&self, n: u8) -> u8
         ensures { result ≡ slice_index self.now.rank n }
     {
-        if (n as usize) < MOST_NODES {
-            self.rank[n as usize]
-        } else {
-            0
-        }
+        self.rank.get(n as usize).copied().unwrap_or(0)
     }
 
     // A node's weight; past the end that of the empty node.
     pub fn weight(&self, n: u8) -> u16
         ensures { Weigh (node_in self.now.nodes) (n ∷ []) result }
     {
-        match remaining(&self.nodes, n, MOST_WEIGHT) {
-            Some(left) => MOST_WEIGHT - left,
-            // Never, since no node of a checked rule is too heavy.
-            None => MOST_WEIGHT,
-        }
+        // No node of a checked rule is too heavy.
+        MOST_WEIGHT - remaining(&self.nodes, n, MOST_WEIGHT).unwrap()
     }
 }

@@ -1,5 +1,5 @@
 // Sets of nodes.
-ghost use Rattle.std.specs.Prelude.{◌≡◌, ℕ, ◌<◌, false, ◌&&◌, ◌||◌, ◌==◌};
+ghost use Rattle.std.specs.Prelude.{◌≡◌, ℕ, ◌<◌, ◌&&◌, ◌||◌, ◌==◌};
 ghost use Rattle.checking.specs.Sets.{holds, count as count_of, any_below};
 ghost use Rattle.checking.specs.FreeSets.{is_free};
 
@@ -14,11 +14,7 @@ pub struct NodeSet {
 }
 
 impl NodeSet {
-    pub(crate) fn none() -> NodeSet
-        ensures { (j : ℕ) → holds result j ≡ false }
-    {
-        NodeSet { bits: 0 }
-    }
+    pub(crate) const NONE: NodeSet = NodeSet { bits: 0 };
 
     pub(crate) fn one(n: usize) -> NodeSet
         requires { n < 128 }
@@ -46,25 +42,28 @@ impl NodeSet {
     pub(crate) fn size(self) -> u8
         ensures { result ≡ count_of (holds self) 128 }
     {
-        let mut n = 0u8;
-        for j in 0..MOST_NODES {
-            if self.has(j) {
-                n += 1;
-            }
-        }
-        n
+        self.bits.count_ones() as u8
     }
 
     // Whether a node is in both.
     pub(crate) fn meets(self, other: NodeSet) -> bool
         ensures { result ≡ any_below (λ j. holds self j && holds other j) 128 }
     {
-        for j in 0..MOST_NODES {
-            if self.has(j) && other.has(j) {
-                return true;
+        self.bits & other.bits != 0
+    }
+
+    // The nodes that pass a test.
+    pub(crate) fn filled<F: Fn(usize) -> bool>(test: F) -> NodeSet
+        requires { (n : ℕ) → n < 128 → F.pre test n }
+        ensures { (n : ℕ) → n < 128 → F.post test n (holds result n) }
+    {
+        let mut set = NodeSet::NONE;
+        for n in 0..MOST_NODES {
+            if test(n) {
+                set = set.join(NodeSet::one(n));
             }
         }
-        false
+        set
     }
 }
 

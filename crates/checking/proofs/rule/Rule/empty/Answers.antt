@@ -1,7 +1,7 @@
 use Rattle.std.proofs.Common.{ap, ◌∙◌, arith}
 use Rattle.checking.specs.declared.links.Links.TheVariants.{Unguarded}
 use Rattle.checking.specs.FreeSets.{FreeSets, is_free}
-use Rattle.checking.proofs.Nodes.{all_empty}
+use Rattle.checking.proofs.Placing.{all_empty}
 use Rattle.checking.proofs.Emptied.{empty_inside, empty_link, empty_names, empty_passed, empty_loopless, empty_light, no_free}
 use Rattle.checking.proofs.rule.Rule.empty.Goals as goal
 
