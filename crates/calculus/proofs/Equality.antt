@@ -16,14 +16,14 @@ same_number_eq (Some j) (Some k) q = ap Some (eqb-true j k q)
 
 same_numbers_eq : (σ τ : Substitution) → same_numbers σ τ ≡ true → σ ≡ τ
 same_numbers_eq σ τ q =
-    let a = and_parts (same_number σ.n0 τ.n0) (same_number σ.n1 τ.n1 && (same_number σ.n2 τ.n2 && same_number σ.n3 τ.n3)) q in
-    let b = and_parts (same_number σ.n1 τ.n1) (same_number σ.n2 τ.n2 && same_number σ.n3 τ.n3) a.1 in
-    let c = and_parts (same_number σ.n2 τ.n2) (same_number σ.n3 τ.n3) b.1 in
-    let p0 = same_number_eq σ.n0 τ.n0 a.0 in
-    let p1 = same_number_eq σ.n1 τ.n1 b.0 in
-    let p2 = same_number_eq σ.n2 τ.n2 c.0 in
-    let p3 = same_number_eq σ.n3 τ.n3 c.1 in
-    λ i. record { n0 = p0 i; n1 = p1 i; n2 = p2 i; n3 = p3 i }
+    let a = and_parts (same_number σ.v0 τ.v0) (same_number σ.v1 τ.v1 && (same_number σ.v2 τ.v2 && same_number σ.v3 τ.v3)) q in
+    let b = and_parts (same_number σ.v1 τ.v1) (same_number σ.v2 τ.v2 && same_number σ.v3 τ.v3) a.1 in
+    let c = and_parts (same_number σ.v2 τ.v2) (same_number σ.v3 τ.v3) b.1 in
+    let p0 = same_number_eq σ.v0 τ.v0 a.0 in
+    let p1 = same_number_eq σ.v1 τ.v1 b.0 in
+    let p2 = same_number_eq σ.v2 τ.v2 c.0 in
+    let p3 = same_number_eq σ.v3 τ.v3 c.1 in
+    λ i. record { v0 = p0 i; v1 = p1 i; v2 = p2 i; v3 = p3 i }
 
 same_op_eq : (o p : Op) → same_op o p ≡ true → o ≡ p
 same_op_eq Or Or q = refl
@@ -85,7 +85,7 @@ same_number_refl None = refl
 same_number_refl (Some k) = eq-eqb k k refl
 
 same_numbers_refl : (σ : Substitution) → same_numbers σ σ ≡ true
-same_numbers_refl σ = rw (same_number_refl σ.n0, same_number_refl σ.n1, same_number_refl σ.n2, same_number_refl σ.n3)
+same_numbers_refl σ = rw (same_number_refl σ.v0, same_number_refl σ.v1, same_number_refl σ.v2, same_number_refl σ.v3)
 
 same_op_refl : (o : Op) → same_op o o ≡ true
 same_op_refl Or = refl

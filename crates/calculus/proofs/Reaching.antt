@@ -25,11 +25,11 @@ empty_option (Some k) h = absurd (h k refl)
 
 unbound : (β : Substitution) → ((v : Var) (k : ℕ) → lookup β v ≡ Some k → ⊥) → β ≡ no_numbers
 unbound β h =
-    let p0 = empty_option β.n0 (h V0) in
-    let p1 = empty_option β.n1 (h V1) in
-    let p2 = empty_option β.n2 (h V2) in
-    let p3 = empty_option β.n3 (h V3) in
-    λ i. record { n0 = p0 i; n1 = p1 i; n2 = p2 i; n3 = p3 i }
+    let p0 = empty_option β.v0 (h V0) in
+    let p1 = empty_option β.v1 (h V1) in
+    let p2 = empty_option β.v2 (h V2) in
+    let p3 = empty_option β.v3 (h V3) in
+    λ i. record { v0 = p0 i; v1 = p1 i; v2 = p2 i; v3 = p3 i }
 
 same_chosen : (o : Option ℕ) (j k : ℕ) → (o ≡ None → j ≡ k) → or_chosen o j ≡ or_chosen o k
 same_chosen None j k h = h refl

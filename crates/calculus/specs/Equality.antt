@@ -14,7 +14,7 @@ same_number (Some j) (Some k) = j == k
 -- two substitutions are equal
 abbrev pub same_numbers : Substitution → Substitution → Bool
 same_numbers σ τ =
-    same_number σ.n0 τ.n0 && (same_number σ.n1 τ.n1 && (same_number σ.n2 τ.n2 && same_number σ.n3 τ.n3))
+    same_number σ.v0 τ.v0 && (same_number σ.v1 τ.v1 && (same_number σ.v2 τ.v2 && same_number σ.v3 τ.v3))
 
 -- two operators are equal
 abbrev pub same_op : Op → Op → Bool

@@ -1,6 +1,8 @@
 -- Numbers for variables: chosen for all of them, or settled for some.
 use Rattle.std.specs.Prelude.{◌≡◌, ℕ, Bool, true, cond, ◌&&◌, ◌==◌}
-use Rattle.calculus.specs.Vocabulary.{Option, None, Some, Var, V0, V1, V2, V3, Substitution, same}
+pub use Rattle.rules.specs.ByVar.{tabulate}
+use Rattle.rules.specs.ByVar.{at}
+use Rattle.calculus.specs.Vocabulary.{Option, None, Some, Var, Substitution, same}
 
 -- a number chosen for each variable
 abbrev pub Choice : Type 0
@@ -8,14 +10,7 @@ Choice = Var → ℕ
 
 -- the number that a substitution has for a variable, if any
 abbrev pub lookup : Substitution → Var → Option ℕ
-lookup σ V0 = σ.n0
-lookup σ V1 = σ.n1
-lookup σ V2 = σ.n2
-lookup σ V3 = σ.n3
-
--- the substitution with these numbers
-abbrev pub tabulate : (Var → Option ℕ) → Substitution
-tabulate f = record { n0 = f V0; n1 = f V1; n2 = f V2; n3 = f V3 }
+lookup = at
 
 -- no variable has a number
 abbrev pub no_numbers : Substitution
@@ -50,7 +45,7 @@ compatible_at (Some k) (Some j) = k == j
 
 -- no variable has two different numbers
 abbrev pub compatible : Substitution → Substitution → Bool
-compatible β γ = compatible_at β.n0 γ.n0 && (compatible_at β.n1 γ.n1 && (compatible_at β.n2 γ.n2 && compatible_at β.n3 γ.n3))
+compatible β γ = compatible_at β.v0 γ.v0 && (compatible_at β.v1 γ.v1 && (compatible_at β.v2 γ.v2 && compatible_at β.v3 γ.v3))
 
 -- a settled number goes before a chosen one
 abbrev pub or_chosen : Option ℕ → ℕ → ℕ

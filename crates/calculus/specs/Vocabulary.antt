@@ -10,7 +10,7 @@ pub use Rattle.rules.specs.declared.node.Op.{Op}
 pub use Rattle.rules.specs.declared.node.Op.TheVariants.{Or, And, Concat, Shuffle}
 pub use Rattle.rules.specs.declared.node.Node.{Node}
 pub use Rattle.rules.specs.declared.node.Node.TheVariants.{Empty, Prefix, Pair, Binder, Filter}
-pub use Rattle.rules.specs.declared.substitution.Substitution.{Substitution}
+pub use Rattle.rules.specs.ByVar.{Substitution}
 pub use Rattle.rules.specs.Vars.{same}
 pub use Rattle.checking.specs.declared.rule.Rule.{Rule}
 pub use Rattle.events.specs.declared.meaning.Meaning.{Meaning}

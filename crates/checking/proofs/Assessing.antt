@@ -1,15 +1,15 @@
 use Rattle.std.proofs.Common.{◌≡◌, ℕ, ◌<◌, Bool, true, false, ◌||◌, List, Some, None, Ok, Err, sym, ap, ◌∙◌, arith}
 use Rattle.rules.specs.declared.node.Var.{Var}
 use Rattle.rules.specs.declared.node.Var.TheVariants.{V0, V1, V2, V3}
+use Rattle.rules.specs.ByVar.{at}
 use Rattle.rules.specs.declared.node.Node.{Node}
 use Rattle.checking.specs.declared.set.NodeSet.{NodeSet}
-use Rattle.checking.specs.declared.set.FreeSets.{FreeSets}
 use Rattle.checking.specs.declared.links.Links.TheVariants.{Unguarded}
 use Rattle.checking.specs.declared.fault.CheckFault.TheVariants.{Loop, TooHeavy, FreeAtStart}
 use Rattle.checking.specs.Sets.{holds, count}
 use Rattle.checking.specs.Links.{links}
 use Rattle.checking.specs.Paths.{in_row, reach}
-use Rattle.checking.specs.FreeSets.{set_of, is_free}
+use Rattle.checking.specs.FreeSets.{FreeSets, is_free}
 use Rattle.checking.specs.Answer.{first, on_loop, heavy, free, rank, is_free_at_start, assessed}
 use Rattle.checking.proofs.First.{first_none, first_same}
 use mathlib.Core.Path.{fun_ext}
@@ -40,5 +40,5 @@ module _ (g : ℕ → Node) where
   pub assessed_fine : first (on_loop g) 0 128 ≡ None → first (heavy g) 0 128 ≡ None → is_free_at_start g ≡ false → assessed g ≡ Ok tt
   assessed_fine p q u = rw (p, q, u)
 
-  pub open_is : (s : FreeSets) → ((v : Var) (n : ℕ) → n < 128 → holds (set_of s v) n ≡ free g v n) → (is_free s V0 0 || (is_free s V1 0 || (is_free s V2 0 || is_free s V3 0))) ≡ is_free_at_start g
+  pub open_is : (s : FreeSets) → ((v : Var) (n : ℕ) → n < 128 → holds (at s v) n ≡ free g v n) → (is_free s V0 0 || (is_free s V1 0 || (is_free s V2 0 || is_free s V3 0))) ≡ is_free_at_start g
   open_is s f = rw (f V0 0 (omega arith), f V1 0 (omega arith), f V2 0 (omega arith), f V3 0 (omega arith))

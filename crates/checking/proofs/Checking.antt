@@ -12,18 +12,17 @@ use Rattle.rules.specs.Layout.{blank}
 use Rattle.checking.specs.Nodes.{node_at}
 use Rattle.checking.specs.Answer.{rank, free, on_loop, heavy, first, misplaced, is_free_at_start, refusing, assessed, answer_of}
 use Rattle.rules.specs.declared.node.Var.TheVariants.{V0, V1, V2, V3}
-use Rattle.checking.specs.declared.set.FreeSets.{FreeSets}
-use Rattle.checking.specs.FreeSets.{is_free, passed, implies}
+use Rattle.checking.specs.FreeSets.{FreeSets, is_free, passed, implies}
 use Rattle.std.proofs.lemmas.List.{get_or_past}
 use Rattle.rules.specs.declared.record.NodeRecord.{NodeRecord}
-use Rattle.checking.specs.declared.fault.CheckFault.TheVariants.{Loop, TooHeavy, FreeAtStart}
+use Rattle.checking.specs.declared.fault.CheckFault.TheVariants.{BadLayout, Loop, TooHeavy, FreeAtStart}
 use Rattle.checking.specs.Made.{Facts}
 use Rattle.checking.proofs.Inside.{decoded_inside, inside_wider}
 use Rattle.checking.proofs.Ranks.{falls}
 use Rattle.checking.proofs.Frees.{free_here, free_up}
 use Rattle.checking.proofs.Emptied.{empty_loopless, empty_rank, empty_free, empty_light}
 use Rattle.checking.proofs.First.{first_none}
-use Rattle.checking.proofs.Nodes.{past}
+use Rattle.checking.proofs.Placing.{past}
 
 module _ (rs : List NodeRecord) (ns : List Node) (same : (k : ℕ) → node ns k ≡ node_at rs k) where
   pub whole : node ns ≡ node_at rs
@@ -41,11 +40,14 @@ module _ (rs : List NodeRecord) (ns : List Node) (same : (k : ℕ) → node ns k
 pub answer_is : (rs : List NodeRecord) → 1 ≤ length rs → length rs ≤ 128 → first (misplaced rs) 0 (length rs) ≡ None → answer_of rs ≡ assessed (node_at rs)
 answer_is rs a b q = rw (le-leb 1 (length rs) a, le-leb (length rs) 128 b, q)
 
+pub refused_at : (rs : List NodeRecord) (n : ℕ) → 1 ≤ length rs → length rs ≤ 128 → first (misplaced rs) 0 (length rs) ≡ Some n → answer_of rs ≡ Err (BadLayout n)
+refused_at rs n a b q = rw (le-leb 1 (length rs) a, le-leb (length rs) 128 b, q)
+
 accepted : (o p : Option ℕ) (b : Bool) → refusing o Loop (refusing p TooHeavy (cond b (Err FreeAtStart) (Ok tt))) ≡ Ok tt → (o ≡ None) × (p ≡ None) × (b ≡ false)
 accepted None None false q = (refl, refl, refl)
-accepted None None true q = let z : ◌≡◌ {A = ℕ} 0 1 = cc in absurd (omega arith)
-accepted None (Some n) b q = let z : ◌≡◌ {A = ℕ} 0 1 = cc in absurd (omega arith)
-accepted (Some n) p b q = let z : ◌≡◌ {A = ℕ} 0 1 = cc in absurd (omega arith)
+accepted None None true q = cc
+accepted None (Some n) b q = cc
+accepted (Some n) p b q = cc
 
 passes : (a b c : Bool) → (a ≡ true → b ≡ true → c ≡ true) → implies (a && b) c ≡ true
 passes true true c f = f refl refl

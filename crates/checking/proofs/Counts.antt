@@ -1,23 +1,11 @@
 -- How many numbers pass a test, and whether one does.
-use Rattle.std.proofs.Common.{◌≡◌, ℕ, zero, suc, ◌+◌, ◌<◌, ◌≤◌, Bool, true, false, cond, ◌||◌, refl, ◌∙◌, subst, inl, inr, add-one, arith}
+use Rattle.std.proofs.Common.{◌≡◌, ℕ, zero, suc, ◌<◌, ◌≤◌, Bool, true, false, cond, refl, subst, inl, inr, arith}
 use Rattle.std.proofs.lemmas.Bool.{or_left, or_right, or_cases, false≢true}
 use Rattle.checking.specs.Sets.{count, any_below}
-
-pub count_more : (f : ℕ → Bool) (k : ℕ) → count f (k + 1) ≡ cond (f k) (count f k + 1) (count f k)
-unfolding count
-count_more f k = rw (add-one k, add-one (count f k))
 
 pub count_none : (f : ℕ → Bool) → count f 0 ≡ 0
 unfolding count
 count_none f = refl
-
-pub any_more : (f : ℕ → Bool) (k : ℕ) → any_below f (k + 1) ≡ (f k || any_below f k)
-unfolding any_below
-any_more f k = rw (add-one k)
-
-pub any_none : (f : ℕ → Bool) → any_below f 0 ≡ false
-unfolding any_below
-any_none f = refl
 
 pub any_in : (f : ℕ → Bool) (N m : ℕ) → m < N → f m ≡ true → any_below f N ≡ true
 unfolding any_below
@@ -27,12 +15,6 @@ any_in f (suc k) m h q =
       | yes e ↦ or_left _ _ (subst (λ (z : ℕ). f z ≡ true) e q)
       | no n ↦ let h' : m < k = omega arith in or_right (f k) _ (any_in f k m h' q)
     ]
-
-pub count_yes : (f : ℕ → Bool) (k : ℕ) → f k ≡ true → count f (k + 1) ≡ count f k + 1
-count_yes f k h = count_more f k ∙ rw h
-
-pub count_no : (f : ℕ → Bool) (k : ℕ) → f k ≡ false → count f (k + 1) ≡ count f k
-count_no f k h = count_more f k ∙ rw h
 
 pub count_most : (f : ℕ → Bool) (N : ℕ) → count f N ≤ N
 unfolding count
@@ -91,3 +73,8 @@ pub any_same : (f g : ℕ → Bool) (k : ℕ) → ((m : ℕ) → m < k → f m �
 unfolding any_below
 any_same f g zero e = refl
 any_same f g (suc k) e = rw (e k (omega arith), any_same f g k (λ m h. e m (omega arith)))
+
+pub count_same : (f g : ℕ → Bool) (k : ℕ) → ((m : ℕ) → m < k → f m ≡ g m) → count f k ≡ count g k
+unfolding count
+count_same f g zero e = refl
+count_same f g (suc k) e = rw (e k (omega arith), count_same f g k (λ m h. e m (omega arith)))

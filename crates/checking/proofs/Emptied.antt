@@ -11,8 +11,7 @@ use Rattle.checking.specs.Links.{names, link, links, inside}
 use Rattle.checking.specs.Paths.{reach}
 use Rattle.checking.specs.Answer.{rank, free, weights, on_loop, heavy}
 use Rattle.rules.specs.declared.node.Var.TheVariants.{V0, V1, V2, V3}
-use Rattle.checking.specs.declared.set.FreeSets.{FreeSets}
-use Rattle.checking.specs.FreeSets.{is_free, no_sets, passed}
+use Rattle.checking.specs.FreeSets.{FreeSets, is_free, no_sets, passed}
 use Rattle.checking.proofs.Bits.{none_holds}
 use Rattle.checking.proofs.Counts.{none_counted, none_below}
 use Rattle.checking.proofs.Reaching.{reach_nothing}

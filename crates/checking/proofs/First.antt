@@ -26,12 +26,12 @@ first_none f i zero q m h b = absurd (omega arith)
 first_none f i (suc k) q m h b = go (f i) refl q (λ r a. first_none f (suc i) k r m a (omega arith))
   where
     go : (t : Bool) → f i ≡ t → cond t (Some i) (first f (suc i) k) ≡ None → (first f (suc i) k ≡ None → suc i ≤ m → f m ≡ false) → f m ≡ false
-    go true e r ih = let z : ◌≡◌ {A = ℕ} 0 1 = cc in absurd (omega arith)
+    go true e r ih = cc
     go false e r ih = elim (native.Mathlib.Decide.ℕ_discrete m i) [ yes d ↦ ap f d ∙ e | no d ↦ ih r (omega arith) ]
 
 pub first_some : (f : ℕ → Bool) (i k n : ℕ) → first f i k ≡ Some n → (f n ≡ true) × (n < i + k) × ((m : ℕ) → i ≤ m → m < n → f m ≡ false)
 unfolding first
-first_some f i zero n q = let z : ◌≡◌ {A = ℕ} 0 1 = cc in absurd (omega arith)
+first_some f i zero n q = cc
 first_some f i (suc k) n q = go (f i) refl q (λ r. first_some f (suc i) k n r)
   where
     go : (t : Bool) → f i ≡ t → cond t (Some i) (first f (suc i) k) ≡ Some n

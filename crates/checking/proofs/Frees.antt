@@ -1,6 +1,6 @@
 -- The nodes in which a variable is free.
-use Rattle.std.proofs.Common.{◌≡◌, ℕ, ◌+◌, ◌<◌, ◌≤◌, Bool, true, false, ◌&&◌, ◌||◌, eqb, ◌≢◌, sym, refl, ap, ◌∙◌, inl, inr, arith, below_more}
-use Rattle.std.proofs.lemmas.Bool.{eq-eqb, ne_eqb, or_left, or_right, or_cases, and_parts, and_from}
+use Rattle.std.proofs.Common.{◌≡◌, ℕ, ◌<◌, Bool, true, ◌&&◌, ◌||◌, ap, inl, inr}
+use Rattle.std.proofs.lemmas.Bool.{or_left, or_right, or_cases, and_parts, and_from}
 use Rattle.checking.specs.Sets.{any_below}
 use Rattle.rules.specs.declared.node.Var.{Var}
 use Rattle.rules.specs.declared.node.Node.{Node}
@@ -34,29 +34,6 @@ module _ (g : ℕ → Node) (G : Ranged g) where
 
       f : ℕ → ℕ → Bool
       f n m = reach l 128 n m && names v (g m)
-
-or_no : (a y : Bool) → (a || (y && false)) ≡ a
-or_no true y = refl
-or_no false true = refl
-or_no false false = refl
-
-or_yes : (a y : Bool) → (a || (y && true)) ≡ (a || y)
-or_yes true y = refl
-or_yes false true = refl
-or_yes false false = refl
-
-module _ (s r t b : ℕ → Bool) (i : ℕ) (y : Bool) (now : (j : ℕ) → r j ≡ (s j || (y && eqb i j))) where
-  other : (m : ℕ) → m ≢ i → r m ≡ s m
-  other m ne = now m ∙ rw (ne_eqb i m (λ e. ne (sym e))) (or_no (s m) y)
-
-  pub added_below : ((m : ℕ) → m < i → s m ≡ t m) → ((m : ℕ) → i ≤ m → s m ≡ b m) → (b i || y) ≡ t i → (m : ℕ) → m < i + 1 → r m ≡ t m
-  added_below below rest hit =
-      below_more _ _
-      (λ m h. let ne : m ≢ i = omega arith in other m ne ∙ below m h)
-      (now i ∙ rw (eq-eqb i i refl, or_yes (s i) y, rest i (omega arith)) hit)
-
-  pub added_rest : ((m : ℕ) → i ≤ m → s m ≡ b m) → (m : ℕ) → i + 1 ≤ m → r m ≡ b m
-  added_rest rest m h = let ne : m ≢ i = omega arith in other m ne ∙ rest m (omega arith)
 
 pub free_is : (g : ℕ → Node) (v : Var) (row base : ℕ → Bool) (n : ℕ) → n < 128
     → ((j : ℕ) → row j ≡ reach (links (Free v) g) 128 n j) → ((m : ℕ) → m < 128 → base m ≡ names v (g m))

@@ -9,10 +9,12 @@ use Rattle.rules.specs.Vars.{same}
 use Rattle.checking.specs.Links.{among, link, links, inside, Ranged}
 use Rattle.checking.specs.Nodes.{or_empty}
 use Rattle.rules.specs.declared.record.NodeRecord.{NodeRecord}
-use Rattle.rules.specs.declared.node.Op.{Op}
-use Rattle.rules.specs.declared.node.Op.TheVariants.{Concat, And, Or, Shuffle}
+use Rattle.std.specs.Result.{result_ok}
+use Rattle.rules.specs.declared.kind.Kind.{Kind}
+use Rattle.rules.specs.declared.kind.Kind.TheVariants.{Prefix as PrefixKind, Pair as PairKind, Binder as BinderKind, Filter as FilterKind}
+use Rattle.rules.specs.Kinds.{kind_of}
 use Rattle.refusals.specs.Options.{on}
-use Rattle.rules.specs.Layout.{pattern_of, var_of, pair_of, decoded, is_constant}
+use Rattle.rules.specs.Layout.{pattern_of, var_of, has_constants, of_kind, decoded}
 
 -- links lead inside
 one_in : (c j N : ℕ) → ltb c N ≡ true → (eqb c j || false) ≡ true → j < N
@@ -51,19 +53,19 @@ module _ (N : ℕ) where
   go_on None f h = refl
   go_on (Some x) f h = h x
 
+  patterned_in : {X : Type 0} (a t : Bool) (o : Option X) (f : X → Option Node) → (t ≡ true → (x : X) → In (f x)) → In (on (cond (a && t) o None) f)
+  patterned_in true true o f h = go_on o f (h refl)
+  patterned_in true false o f h = refl
+  patterned_in false t o f h = refl
+
+  kind_inside : (r : NodeRecord) (k : Kind) → In (of_kind N r k)
+  kind_inside r PrefixKind = patterned_in (eqb (r.map % 32) 11) (ltb r.first N) (pattern_of r) _ (λ h p. h)
+  kind_inside r (PairKind o) = when (eqb r.map 7) (ltb r.first N && ltb r.second N) _ (λ h. h)
+  kind_inside r BinderKind = when (eqb r.map 19) (ltb r.first N) _ (λ h. go_on (var_of r.variable) _ (λ v. h))
+  kind_inside r FilterKind = patterned_in (eqb (r.map % 32) 11) (ltb r.first N) (pattern_of r) _ (λ h p. either (has_constants p) _ _ h refl)
+
   pub decoded_inside : (r : NodeRecord) → In (decoded N r)
-  decoded_inside r =
-      either (eqb r.map 0) _ _ refl
-      (either (eqb r.kind 1) _ _ (when (eqb (r.map % 32) 11) (ltb r.first N) _ (λ h. go_on (pattern_of r) _ (λ p. h)))
-      (either (eqb r.kind 2) _ _ (pair_in Concat)
-      (either (eqb r.kind 3) _ _ (pair_in And)
-      (either (eqb r.kind 4) _ _ (pair_in Or)
-      (either (eqb r.kind 5) _ _ (pair_in Shuffle)
-      (either (eqb r.kind 6) _ _ (when (eqb r.map 19) (ltb r.first N) _ (λ h. go_on (var_of r.variable) _ (λ v. h)))
-      (either (eqb r.kind 7) _ _ (when (eqb (r.map % 32) 11) (ltb r.first N) _ (λ h. go_on (pattern_of r) _ (λ p. either (is_constant p.player && (is_constant p.card && is_constant p.strokes)) _ _ h refl))) refl)))))))
-    where
-      pair_in : (o : Op) → In (pair_of o N r)
-      pair_in o = when (eqb r.map 7) (ltb r.first N && ltb r.second N) _ (λ h. h)
+  decoded_inside r = either (eqb r.map 0) _ _ refl (go_on (result_ok (kind_of r.kind)) (of_kind N r) (kind_inside r))
 
 wider : (c N M : ℕ) → N ≤ M → ltb c N ≡ true → ltb c M ≡ true
 wider c N M h q = let a = ltb-true c N q in lt-ltb c M (omega arith)

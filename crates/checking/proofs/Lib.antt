@@ -1,9 +1,11 @@
 mod Bits
 mod Counts
+mod Meeting
+mod Counting
 mod Reaching
 mod Rows
 mod First
-mod Nodes
+mod Placing
 mod Inside
 mod Ranks
 mod Weigh

@@ -19,7 +19,7 @@ use Rattle.checking.specs.Nodes.{found, node_at}
 use Rattle.checking.specs.Answer.{first, misplaced, on_loop, heavy as is_heavy, weights, free, is_free_at_start, assessed, answer_of, refusing}
 use Rattle.checking.specs.Meaning.{Lowest, FreeIn, here, up, Looping, Over, Counted, Never, Broken, Says, bad_count, bad_layout, loop, too_heavy, free_at_start, fine}
 use Rattle.checking.proofs.First.{first_none, first_some, first_is, first_nowhere}
-use Rattle.checking.proofs.Nodes.{past}
+use Rattle.checking.proofs.Placing.{past}
 use Rattle.checking.proofs.Inside.{ranged}
 use Rattle.checking.proofs.Reaching.{reach_path, path_reach, path_end}
 use Rattle.checking.proofs.Weigh.{weighed}
@@ -122,7 +122,7 @@ module _ (rs : List NodeRecord) where
   broken_whole : (k : ℕ) → Broken rs k → (k < length rs) × (misplaced rs k ≡ true)
   broken_whole k e = (
     ⊎_elim (λ b. b) (λ b. let s : found rs k ≡ Some Empty = ap (λ (r : NodeRecord). decoded (length rs) r) (get_or_past rs k blank b) in
-        let z : ◌≡◌ {A = ℕ} 0 1 = cc in absurd (omega arith)) (cases_lt k (length rs)),
+        cc) (cases_lt k (length rs)),
     rw e,
   )
 

@@ -1,5 +1,5 @@
 -- Weights: what they leave of a limit, and that each node has one where there is no loop.
-use Rattle.std.proofs.Common.{◌≡◌, ℕ, zero, suc, ◌+◌, ◌-◌, ◌<◌, ◌≤◌, true, false, eqb, List, [], ◌∷◌, IfSome, Some, None, Option, sym, refl, subst, arith}
+use Rattle.std.proofs.Common.{◌≡◌, ℕ, zero, suc, ◌+◌, ◌-◌, ◌<◌, ◌≤◌, Bool, true, false, not, is_some, eqb, List, [], ◌∷◌, IfSome, Some, None, Option, sym, refl, subst, arith}
 use Rattle.std.proofs.lemmas.Bool.{eq-eqb, or_left, or_right, lt-ltb, le-ltb}
 use Rattle.rules.specs.declared.node.Node.{Node}
 use Rattle.checking.specs.declared.links.Links.TheVariants.{Unguarded}
@@ -14,12 +14,6 @@ less_on None a b h k = tt
 less_on (Some l) a b h k = omega arith
 
 module _ (g : ℕ → Node) (bud : ℕ) (pos : 0 < bud) where
-  no_weigh : (w : ℕ) → Weigh g [] w → w ≡ 0
-  no_weigh w none = refl
-
-  pub leaves_none : (ts : List ℕ) → [] ≡ ts → (w : ℕ) → Weigh g ts w → (bud - 1) + suc w ≡ bud
-  leaves_none ts e w p = let q = no_weigh w (subst (λ (t : List ℕ). Weigh g t w) (sym e) p) in omega arith
-
   one_way : (r : Option ℕ) (c w : ℕ) → ((v : ℕ) → Weigh g (targets Unguarded (g c)) v → Leaves r (bud - 1) (suc v)) → Weigh g (c ∷ []) w → Leaves r bud (suc w)
   one_way None c _ f (some {x = x} p none) = let h = f x p in omega arith
   one_way (Some l) c _ f (some {x = x} p none) = let h = f x p in omega arith
@@ -37,20 +31,20 @@ module _ (g : ℕ → Node) (bud : ℕ) (pos : 0 < bud) where
       → ((v : ℕ) → Weigh g (targets Unguarded (g b)) v → Leaves r left (suc v)) → (w : ℕ) → Weigh g ts w → Leaves r bud (suc w)
   leaves_two ts r a b left e f k w p = two_ways r a b left w f k (subst (λ (t : List ℕ). Weigh g t w) (sym e) p)
 
-  two_stops : (a b w : ℕ) → ((v : ℕ) → Weigh g (targets Unguarded (g a)) v → bud - 1 < suc v) → Weigh g (a ∷ b ∷ []) w → bud < suc w
-  two_stops a b _ f (some {x = x} p (some {x = y} q none)) = let h = f x p in omega arith
-
-  pub leaves_stop : (ts : List ℕ) (a b : ℕ) → (a ∷ b ∷ []) ≡ ts → ((v : ℕ) → Weigh g (targets Unguarded (g a)) v → bud - 1 < suc v) → (w : ℕ) → Weigh g ts w → bud < suc w
-  leaves_stop ts a b e f w p = two_stops a b w f (subst (λ (t : List ℕ). Weigh g t w) (sym e) p)
-
 module _ (g : ℕ → Node) (n : ℕ) where
-  pub light : (left : ℕ) → left + suc (weights g 128 (targets Unguarded (g n))) ≡ 1000 → heavy g n ≡ false
+  light : (left : ℕ) → left + suc (weights g 128 (targets Unguarded (g n))) ≡ 1000 → heavy g n ≡ false
   unfolding heavy
   light left e = le-ltb 1000 _ (omega arith)
 
   pub too_heavy : 1000 < suc (weights g 128 (targets Unguarded (g n))) → heavy g n ≡ true
   unfolding heavy
   too_heavy h = lt-ltb 1000 _ h
+
+  pub heavy_is : (r : Option ℕ) (b : Bool) → is_some r ≡ not b → Leaves r 1000 (suc (weights g 128 (targets Unguarded (g n)))) → b ≡ heavy g n
+  heavy_is None true e h = sym (too_heavy h)
+  heavy_is None false e h = cc
+  heavy_is (Some left) true e h = cc
+  heavy_is (Some left) false e h = sym (light left h)
 
 module _ (g : ℕ → Node) (G : Ranged g) (L : (n : ℕ) → n < 128 → reach (links Unguarded g) 128 n n ≡ false) where
   weighs : (d : ℕ) (ns : List ℕ) → ((c : ℕ) → among c ns ≡ true → rank g c < d) → Weigh g ns (weights g d ns)

@@ -4,9 +4,8 @@ use Rattle.rules.specs.declared.record.NodeRecord.{NodeRecord}
 use Rattle.rules.specs.declared.node.Var.{Var}
 use Rattle.rules.specs.declared.node.Node.{Node}
 use Rattle.rules.specs.declared.node.Node.TheVariants.{Empty}
-use Rattle.checking.specs.declared.set.FreeSets.{FreeSets}
 use Rattle.checking.specs.Links.{node, Ranged}
-use Rattle.checking.specs.FreeSets.{is_free}
+use Rattle.checking.specs.FreeSets.{FreeSets, is_free}
 use Rattle.checking.specs.Nodes.{node_at}
 use Rattle.checking.specs.Answer.{rank, assessed}
 use Rattle.checking.specs.Meaning.{FreeIn}

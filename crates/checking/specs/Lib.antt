@@ -5,6 +5,7 @@ pub mod Weights
 pub mod Nodes
 pub mod Answer
 pub mod FreeSets
+pub mod Decoding
 pub mod Made
 pub mod Meaning
 pub mod Refusals

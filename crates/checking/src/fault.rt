@@ -1,8 +1,9 @@
 // Why a list of records is no rule, and what the refusal answers.
-ghost use Rattle.std.specs.Prelude.{◌≡◌};
+ghost use Rattle.std.specs.Prelude.{◌≡◌, Some};
 ghost use Rattle.checking.specs.Refusals.{refusal_of, cause_of};
 
 use refusals::{Layer, Place, Refusal};
+use std::fmt;
 
 // Why checking refuses a list of records; a number is that of the lowest such node.
 #[derive(Clone, Copy)]
@@ -19,12 +20,11 @@ pub enum CheckFault {
     FreeAtStart,
 }
 
-impl CheckFault {
-    // The number, layer and place of the refusal.
-    pub fn refusal(&self) -> Refusal
-        ensures { result ≡ refusal_of self.now }
-    {
-        let (number, node) = match *self {
+impl From<CheckFault> for Refusal {
+    ghost from_gives = { λ fault r. r ≡ refusal_of fault };
+
+    fn from(fault: CheckFault) -> Refusal {
+        let (number, node) = match fault {
             CheckFault::BadCount => (2, 0),
             CheckFault::BadLayout(n) => (3, n),
             CheckFault::Loop(n) => (5, n),
@@ -36,6 +36,24 @@ impl CheckFault {
             layer: Layer::Checking,
             place: Place::Node(node),
         }
+    }
+}
+
+// The cause in plain words.
+impl fmt::Display for CheckFault {
+    ghost output = { λ fault. Some (cause_of fault) };
+
+    fn fmt<W: fmt::Write>(&self, f: &mut fmt::Formatter<W>) -> fmt::Result {
+        f.write_str(self.cause())
+    }
+}
+
+impl CheckFault {
+    // The number, layer and place of the refusal.
+    pub fn refusal(&self) -> Refusal
+        ensures { result ≡ refusal_of self.now }
+    {
+        Refusal::from(*self)
     }
 
     // The cause in plain words.

@@ -1,61 +1,36 @@
 // The nodes in which a variable is free.
-ghost use Rattle.std.specs.Prelude.{◌≡◌, ℕ, ◌<◌, ◌&&◌, ◌||◌, ◌==◌};
+ghost use Rattle.std.specs.Prelude.{◌≡◌, ℕ, ◌<◌};
 ghost use Rattle.rules.specs.declared.node.Var.{Var as V};
+ghost use Rattle.rules.specs.ByVar.{at};
 ghost use Rattle.checking.specs.Sets.{holds};
-ghost use Rattle.checking.specs.Links.{node, names as names_of, Ranged};
-ghost use Rattle.checking.specs.FreeSets.{set_of};
+ghost use Rattle.checking.specs.Links.{node, names as names_of};
 ghost use Rattle.checking.specs.Answer.{free as free_in};
 
-use crate::graph::reaches;
 use crate::links::{Links, names};
+use crate::nodes::Nodes;
+use crate::relation::Relation;
 use crate::set::{FreeSets, NodeSet};
-use rules::node::{Node, Var};
-use rules::record::MOST_NODES;
-
-fn added(set: NodeSet, n: usize, there: bool) -> NodeSet
-    requires { n < 128 }
-    ensures { (j : ℕ) → holds result j ≡ (holds set j || (there && n == j)) }
-{
-    if there {
-        set.join(NodeSet::one(n))
-    } else {
-        set
-    }
-}
+use rules::node::Var;
 
 // The nodes whose pattern names a variable.
-fn naming(v: Var, nodes: &[Node; MOST_NODES]) -> NodeSet
-    ensures { (n : ℕ) → n < 128 → holds result n ≡ names_of v (node nodes.now n) }
+fn naming(v: Var, nodes: &Nodes) -> NodeSet
+    ensures { (n : ℕ) → n < 128 → holds result n ≡ names_of v (node nodes.now.list n) }
 {
-    let mut set = NodeSet::none();
-    for i in 0..MOST_NODES {
-        set = added(set, i, names(v, &nodes[i]));
-    }
-    set
+    NodeSet::filled(|n| names(v, &nodes.list[n]))
 }
 
 // The nodes in which a variable is free: those that name it, and those that lead to one along links that keep it free.
-fn free_in(v: Var, nodes: &[Node; MOST_NODES]) -> NodeSet
-    requires { Ranged (node nodes.now) }
-    ensures { (n : ℕ) → n < 128 → holds result n ≡ free_in (node nodes.now) v n }
+fn free_in(v: Var, nodes: &Nodes) -> NodeSet
+    ensures { (n : ℕ) → n < 128 → holds result n ≡ free_in (node nodes.now.list) v n }
 {
-    let rows = reaches(Links::Free(v), nodes);
-    let base = naming(v, nodes);
-    let mut set = base;
-    for i in 0..MOST_NODES {
-        set = added(set, i, rows[i].meets(base));
-    }
-    set
+    let paths = Relation::paths(Links::Free(v), nodes);
+    let naming = naming(v, nodes);
+    NodeSet::filled(|n| naming.has(n) || paths.rows[n].meets(naming))
 }
 
 // The same for each variable.
-pub(crate) fn free_sets(nodes: &[Node; MOST_NODES]) -> FreeSets
-    requires { Ranged (node nodes.now) }
-    ensures { (v : V) (n : ℕ) → n < 128 → holds (set_of result v) n ≡ free_in (node nodes.now) v n }
+pub(crate) fn free_sets(nodes: &Nodes) -> FreeSets
+    ensures { (v : V) (n : ℕ) → n < 128 → holds (at result v) n ≡ free_in (node nodes.now.list) v n }
 {
-    let v0 = free_in(Var::V0, nodes);
-    let v1 = free_in(Var::V1, nodes);
-    let v2 = free_in(Var::V2, nodes);
-    let v3 = free_in(Var::V3, nodes);
-    FreeSets { v0, v1, v2, v3 }
+    FreeSets::from_fn(|v| free_in(v, nodes))
 }

@@ -2,11 +2,12 @@
 #![tactic(auto)]
 
 pub mod check;
-mod close;
 pub mod fault;
 mod free;
-mod graph;
 mod links;
+mod lowest;
+mod nodes;
+mod relation;
 pub mod rule;
 mod set;
 mod weight;

@@ -1,6 +1,5 @@
 // Which node leads to which.
 ghost use Rattle.std.specs.Prelude.{◌≡◌, ℕ, true};
-ghost use Rattle.rules.specs.Vars.{same as same_var};
 ghost use Rattle.checking.specs.Sets.{holds};
 ghost use Rattle.checking.specs.Links.{listed, targets as targets_of, link, inside, names as names_of, slot_names};
 
@@ -22,19 +21,13 @@ pub enum Children {
     Two(u8, u8),
 }
 
-fn same(a: Var, b: Var) -> bool
-    ensures { result ≡ same_var a b }
-{
-    a.index() == b.index()
-}
-
 fn slot_names(v: Var, s: Slot) -> bool
     ensures { result ≡ slot_names v s }
 {
     match s {
         Slot::Any => false,
         Slot::Constant(_) => false,
-        Slot::Variable(w) => same(w, v),
+        Slot::Variable(w) => w == v,
     }
 }
 
@@ -64,7 +57,7 @@ pub(crate) fn targets(which: Links, n: &Node) -> Children
         Node::Binder(w, c) => match which {
             Links::Unguarded => Children::One(c),
             Links::Free(v) => {
-                if same(w, v) {
+                if w == v {
                     Children::None
                 } else {
                     Children::One(c)
@@ -81,7 +74,7 @@ pub(crate) fn target_set(which: Links, n: &Node) -> NodeSet
     ensures { (j : ℕ) → holds result j ≡ link which n.now j }
 {
     match targets(which, n) {
-        Children::None => NodeSet::none(),
+        Children::None => NodeSet::NONE,
         Children::One(c) => NodeSet::one(c as usize),
         Children::Two(a, b) => NodeSet::one(a as usize).join(NodeSet::one(b as usize)),
     }

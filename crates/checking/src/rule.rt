@@ -8,7 +8,7 @@ ghost use Rattle.checking.specs.Weights.{Weigh};
 ghost use Rattle.checking.specs.FreeSets.{is_free, passed, no_sets};
 ghost use Rattle.checking.specs.Answer.{on_loop, heavy};
 
-use crate::set::{FreeSets, NodeSet};
+use crate::set::{FreeSets, NodeSet, is_free};
 use crate::weight::{node_at, remaining};
 use rules::node::{Node, Var};
 use rules::record::MOST_NODES;
@@ -45,16 +45,10 @@ impl Rule {
         ensures free { result.free ≡ no_sets }
         ensures rank { result.rank ≡ replicate 128 0 }
     {
-        let none = NodeSet { bits: 0 };
         Rule {
             count: 1,
             nodes: [Node::Empty; MOST_NODES],
-            free: FreeSets {
-                v0: none,
-                v1: none,
-                v2: none,
-                v3: none,
-            },
+            free: FreeSets::all(NodeSet::NONE),
             rank: [0; MOST_NODES],
         }
     }
@@ -78,28 +72,21 @@ impl Rule {
     pub fn is_free(&self, v: Var, n: u8) -> bool
         ensures { result ≡ is_free self.now.free v n }
     {
-        self.free.is_free(v, n)
+        is_free(&self.free, v, n)
     }
 
     // A node's rank: how many nodes unguarded links lead to; 0 past the end.
     pub fn rank(&self, n: u8) -> u8
         ensures { result ≡ slice_index self.now.rank n }
     {
-        if (n as usize) < MOST_NODES {
-            self.rank[n as usize]
-        } else {
-            0
-        }
+        self.rank.get(n as usize).copied().unwrap_or(0)
     }
 
     // A node's weight; past the end that of the empty node.
     pub fn weight(&self, n: u8) -> u16
         ensures { Weigh (node_in self.now.nodes) (n ∷ []) result }
     {
-        match remaining(&self.nodes, n, MOST_WEIGHT) {
-            Some(left) => MOST_WEIGHT - left,
-            // Never, since no node of a checked rule is too heavy.
-            None => MOST_WEIGHT,
-        }
+        // No node of a checked rule is too heavy.
+        MOST_WEIGHT - remaining(&self.nodes, n, MOST_WEIGHT).unwrap()
     }
 }

@@ -1,8 +1,9 @@
 // Sets of nodes.
-ghost use Rattle.std.specs.Prelude.{◌≡◌, ℕ, ◌<◌, false, ◌&&◌, ◌||◌, ◌==◌};
+ghost use Rattle.std.specs.Prelude.{◌≡◌, ℕ, ◌<◌, ◌&&◌, ◌||◌, ◌==◌};
 ghost use Rattle.checking.specs.Sets.{holds, count as count_of, any_below};
-ghost use Rattle.checking.specs.FreeSets.{set_of, is_free};
+ghost use Rattle.checking.specs.FreeSets.{is_free};
 
+use rules::by_var::ByVar;
 use rules::node::Var;
 use rules::record::MOST_NODES;
 
@@ -13,11 +14,7 @@ pub struct NodeSet {
 }
 
 impl NodeSet {
-    pub(crate) fn none() -> NodeSet
-        ensures { (j : ℕ) → holds result j ≡ false }
-    {
-        NodeSet { bits: 0 }
-    }
+    pub(crate) const NONE: NodeSet = NodeSet { bits: 0 };
 
     pub(crate) fn one(n: usize) -> NodeSet
         requires { n < 128 }
@@ -45,53 +42,37 @@ impl NodeSet {
     pub(crate) fn size(self) -> u8
         ensures { result ≡ count_of (holds self) 128 }
     {
-        let mut n = 0u8;
-        for j in 0..MOST_NODES {
-            if self.has(j) {
-                n += 1;
-            }
-        }
-        n
+        self.bits.count_ones() as u8
     }
 
     // Whether a node is in both.
     pub(crate) fn meets(self, other: NodeSet) -> bool
         ensures { result ≡ any_below (λ j. holds self j && holds other j) 128 }
     {
-        for j in 0..MOST_NODES {
-            if self.has(j) && other.has(j) {
-                return true;
+        self.bits & other.bits != 0
+    }
+
+    // The nodes that pass a test.
+    pub(crate) fn filled<F: Fn(usize) -> bool>(test: F) -> NodeSet
+        requires { (n : ℕ) → n < 128 → F.pre test n }
+        ensures { (n : ℕ) → n < 128 → F.post test n (holds result n) }
+    {
+        let mut set = NodeSet::NONE;
+        for n in 0..MOST_NODES {
+            if test(n) {
+                set = set.join(NodeSet::one(n));
             }
         }
-        false
+        set
     }
 }
 
 // For each variable the nodes in which it is free.
-#[derive(Clone, Copy)]
-pub struct FreeSets {
-    pub v0: NodeSet,
-    pub v1: NodeSet,
-    pub v2: NodeSet,
-    pub v3: NodeSet,
-}
+pub type FreeSets = ByVar<NodeSet>;
 
-impl FreeSets {
-    fn of(&self, v: Var) -> NodeSet
-        ensures { result ≡ set_of self.now v }
-    {
-        match v {
-            Var::V0 => self.v0,
-            Var::V1 => self.v1,
-            Var::V2 => self.v2,
-            Var::V3 => self.v3,
-        }
-    }
-
-    // Whether a variable is free in a node; in none past the last.
-    pub(crate) fn is_free(&self, v: Var, n: u8) -> bool
-        ensures { result ≡ is_free self.now v n }
-    {
-        (n as usize) < MOST_NODES && self.of(v).has(n as usize)
-    }
+// Whether a variable is free in a node; in none past the last.
+pub(crate) fn is_free(free: &FreeSets, v: Var, n: u8) -> bool
+    ensures { result ≡ is_free free.now v n }
+{
+    (n as usize) < MOST_NODES && free.get(v).has(n as usize)
 }

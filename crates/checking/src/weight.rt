@@ -6,6 +6,7 @@ ghost use Rattle.checking.specs.Weights.{Weigh, Leaves};
 ghost use Rattle.checking.specs.Answer.{first, heavy, weights};
 
 use crate::links::{Children, Links, targets};
+use crate::lowest::lowest;
 use crate::rule::MOST_WEIGHT;
 use rules::node::Node;
 use rules::record::MOST_NODES;
@@ -14,11 +15,7 @@ use rules::record::MOST_NODES;
 pub(crate) fn node_at(nodes: &[Node; MOST_NODES], n: u8) -> Node
     ensures { result ≡ node nodes.now n }
 {
-    if (n as usize) < MOST_NODES {
-        nodes[n as usize]
-    } else {
-        Node::Empty
-    }
+    nodes.get(n as usize).copied().unwrap_or(Node::Empty)
 }
 
 // What a node's weight leaves of a limit; none where it is over the limit.
@@ -26,20 +23,23 @@ pub(crate) fn remaining(nodes: &[Node; MOST_NODES], n: u8, limit: u16) -> Option
     ensures less { IfSome result (λ left. left < limit) }
     ensures leaves { (w : ℕ) → Weigh (node nodes.now) (targets_of Unguarded (node nodes.now n)) w → Leaves result limit (suc w) }
 {
-    if limit == 0 {
-        return None;
-    }
-    let here = node_at(nodes, n);
-    match targets(Links::Unguarded, &here) {
-        Children::None => Some(limit - 1),
-        Children::One(c) => remaining(nodes, c, limit - 1),
+    let rest = limit.checked_sub(1)?;
+    match targets(Links::Unguarded, &node_at(nodes, n)) {
+        Children::None => Some(rest),
+        Children::One(c) => remaining(nodes, c, rest),
         Children::Two(a, b) => {
-            let Some(left) = remaining(nodes, a, limit - 1) else {
-                return None;
-            };
+            let left = remaining(nodes, a, rest)?;
             remaining(nodes, b, left)
         }
     }
+}
+
+// Whether a node weighs over the limit.
+fn is_too_heavy(nodes: &[Node; MOST_NODES], n: u8) -> bool
+    requires { Weigh (node nodes.now) (targets_of Unguarded (node nodes.now n)) (weights (node nodes.now) 128 (targets_of Unguarded (node nodes.now n))) }
+    ensures { result ≡ heavy (node nodes.now) n }
+{
+    remaining(nodes, n, MOST_WEIGHT).is_none()
 }
 
 // The lowest node that weighs over the limit.
@@ -47,10 +47,5 @@ pub(crate) fn lowest_too_heavy(nodes: &[Node; MOST_NODES]) -> Option<u8>
     requires { (n : ℕ) → Weigh (node nodes.now) (targets_of Unguarded (node nodes.now n)) (weights (node nodes.now) 128 (targets_of Unguarded (node nodes.now n))) }
     ensures { result ≡ first (heavy (node nodes.now)) 0 128 }
 {
-    for n in 0..MOST_NODES {
-        let Some(_) = remaining(nodes, n as u8, MOST_WEIGHT) else {
-            return Some(n as u8);
-        };
-    }
-    None
+    lowest(|n| is_too_heavy(nodes, n))
 }

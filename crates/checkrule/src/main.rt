@@ -8,31 +8,26 @@ use rules::node::Var;
 use rules::read::read;
 use rules::record::{MOST_NODES, NodeRecord};
 use rules::span::node_span;
-use ruletext::Text;
-use std::{fs, io};
+use std::{fmt, fs, io};
 
 // The variables that are free in a node, or that there is none.
 fn print_free(rt: HostRuntime, rule: &Rule, n: u8) -> Result<(), io::Error> {
-    let mut some = false;
-    for v in [Var::V0, Var::V1, Var::V2, Var::V3] {
+    if !Var::ALL.iter().any(|v| rule.is_free(*v, n)) {
+        return println!(rt; " none");
+    }
+    for v in Var::ALL {
         if rule.is_free(v, n) {
-            let v = Text(v);
             print!(rt; " {v}")?;
-            some = true;
         }
     }
-    if some {
-        println!(rt; "")
-    } else {
-        println!(rt; " none")
-    }
+    println!(rt; "")
 }
 
 fn print_rule(rt: HostRuntime, rule: &Rule) -> Result<(), io::Error> {
     let count = rule.count();
     println!(rt; "a rule of {count} nodes")?;
     for n in 0..count {
-        let node = Text(rule.node(n));
+        let node = rule.node(n);
         let weight = rule.weight(n);
         let rank = rule.rank(n);
         println!(rt; "{n}: {node}")?;
@@ -53,16 +48,16 @@ fn print_bytes(rt: HostRuntime, bytes: &[u8], part: Span) -> Result<(), io::Erro
 }
 
 // The number, layer, cause and place of a refusal, with the faulty part of the bytes.
-fn print_refusal(
+fn print_refusal<F: Copy + Into<Refusal> + fmt::Display>(
     rt: HostRuntime,
     bytes: &[u8],
     list: &[NodeRecord],
-    refusal: Refusal,
-    cause: &str,
+    fault: F,
 ) -> Result<(), io::Error> {
+    let refusal: Refusal = fault.into();
     let number = refusal.number;
     let layer = refusal.layer;
-    println!(rt; "refused: {number}, {layer}: {cause}")?;
+    println!(rt; "refused: {number}, {layer}: {fault}")?;
     match refusal.place {
         Place::Nowhere => Ok(()),
         Place::Bytes(part) => print_bytes(rt, bytes, part),
@@ -78,11 +73,11 @@ fn main(rt: HostRuntime) -> Result<(), io::Error> {
     let mut list = [NodeRecord::BLANK; MOST_NODES];
     let count = match read(&bytes, &mut list) {
         Ok(count) => count as usize,
-        Err(fault) => return print_refusal(rt, &bytes, &list, fault.refusal(), fault.cause()),
+        Err(fault) => return print_refusal(rt, &bytes, &list, fault),
     };
     let mut rule = Rule::empty();
     match check(&list[..count], &mut rule) {
         Ok(()) => print_rule(rt, &rule),
-        Err(fault) => print_refusal(rt, &bytes, &list, fault.refusal(), fault.cause()),
+        Err(fault) => print_refusal(rt, &bytes, &list, fault),
     }
 }

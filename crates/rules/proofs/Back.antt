@@ -2,7 +2,8 @@ use Rattle.std.proofs.Common.{◌≡◌, ℕ, ◌/◌, ◌%◌, Bool, true, fals
 use Rattle.std.proofs.lemmas.Bool.{le-leb, and_parts}
 use Rattle.rules.specs.declared.record.SlotField.{SlotField}
 use Rattle.rules.specs.declared.record.NodeRecord.{NodeRecord}
-use Rattle.rules.specs.Layout.{is_set, decoded}
+use Rattle.rules.specs.Map.{is_set}
+use Rattle.rules.specs.Layout.{decoded}
 use Rattle.rules.specs.Bytes.{byte_of, field_of, record_of, number4, node_of, nodes_of, rule_of, laid}
 use Rattle.rules.specs.Writing.{byte_if, field_if, encoded, kept, kept_field, cleaned, encoded_all, all_laid, Laid, encoded_rule}
 

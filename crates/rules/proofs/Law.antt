@@ -1,5 +1,5 @@
 -- The law of reading, from what its answer and its list are.
-use Rattle.std.proofs.Common.{◌≡◌, ℕ, ◌<◌, ◌≤◌, Bool, true, false, cond, leb, List, ◌++◌, map, length, get_or, take, drop, Ok, Err, Result, sym, refl, ap, ◌∙◌, arith}
+use Rattle.std.proofs.Common.{◌≡◌, ℕ, ◌<◌, ◌≤◌, Bool, true, false, cond, leb, List, ◌++◌, map, length, get_or, take, drop, Ok, Err, Result, sym, refl, ap, ◌∙◌}
 use lib.ListN.{length-map}
 use Rattle.std.proofs.lemmas.Bool.{le-leb}
 use Rattle.std.proofs.lemmas.List.{take_at}
@@ -22,12 +22,12 @@ module _ (xs : List ℕ) (old : List NodeRecord) where
       (rw (q, n, b), rw (q, n, b))
 
   read_only : (o : Result (List NodeRecord) ReadFault) → rule_of xs ≡ o → (n : ℕ) → answered o old ≡ Ok n → Octets xs → xs ≡ encoded_rule (take n (written o old))
-  read_only (Err e) q n h t = let z : ◌≡◌ {A = ℕ} 0 1 = cc in absurd (omega arith)
+  read_only (Err e) q n h t = cc
   read_only (Ok rs) q n h t = go (leb (length rs) (length old)) h
     where
       go : (b : Bool) → cond b (Ok (length rs)) (Err ListTooShort) ≡ Ok n → xs ≡ encoded_rule (take n (cond b (rs ++ drop (length rs) old) old))
       go true k = let d : length rs ≡ n = cc in reads_only xs rs t q ∙ ap encoded_rule (sym (take_at rs (drop (length rs) old) n d))
-      go false k = let z : ◌≡◌ {A = ℕ} 0 1 = cc in absurd (omega arith)
+      go false k = cc
 
 pub decodes : (xs : List ℕ) (old : List NodeRecord) (r : Result ℕ ReadFault) (new : List NodeRecord)
     → ((i : ℕ) → get_or xs i 0 < 256) → r ≡ answered (rule_of xs) old → new ≡ written (rule_of xs) old → Decodes xs old r new

@@ -1,3 +1,4 @@
+pub mod Tables
 pub mod Reading
 mod Back
 mod Only

@@ -5,13 +5,14 @@ use Rattle.rules.specs.declared.fault.ReadFault.{ReadFault}
 use Rattle.rules.specs.declared.fault.ReadFault.TheVariants.{BadCount}
 use Rattle.refusals.specs.Options.{on}
 use Rattle.refusals.proofs.Octets.{Octets}
-use Rattle.rules.specs.Layout.{is_set, decoded}
+use Rattle.rules.specs.Map.{is_set}
+use Rattle.rules.specs.Layout.{decoded}
 use Rattle.rules.specs.Bytes.{byte_of, field_of, record_of, number4, node_of, nodes_of, before, then, rule_of, laid}
 use Rattle.rules.specs.Writing.{byte_if, field_if, encoded, encoded_all, encoded_rule}
 use Rattle.rules.proofs.Reading.{nodes_length, nodes_suc, nodes_zero}
 
 on_some : {X Y : Type 0} (o : Option X) (f : X → Option Y) (y : Y) → on o f ≡ Some y → (x : X) × (o ≡ Some x) × (f x ≡ Some y)
-on_some None f y e = let z : ◌≡◌ {A = ℕ} 0 1 = cc in absurd (omega arith)
+on_some None f y e = cc
 on_some (Some x) f y e = (x, refl, e)
 
 same_some : {X : Type 0} (x y : X) → Some x ≡ Some y → x ≡ y
@@ -19,16 +20,16 @@ same_some x y e = cc
 
 byte_made : (b : Bool) (xs : List ℕ) (p : ℕ × List ℕ) → byte_of b xs ≡ Some p → Octets xs → (xs ≡ byte_if b p.0 p.1) × Octets p.1
 byte_made false xs p e o = let q : (0, xs) ≡ p = cc in (ap (λ (r : ℕ × List ℕ). r.1) q, subst (λ (r : ℕ × List ℕ). Octets r.1) q o)
-byte_made true [] p e o = let z : ◌≡◌ {A = ℕ} 0 1 = cc in absurd (omega arith)
+byte_made true [] p e o = cc
 byte_made true (a ∷ xs) p e o = let q : (a, xs) ≡ p = cc in (ap (λ (r : ℕ × List ℕ). r.0 ∷ r.1) q, subst (λ (r : ℕ × List ℕ). Octets r.1) q o.1)
 
 field_made : (b : Bool) (xs : List ℕ) (p : SlotField × List ℕ) → field_of b xs ≡ Some p → Octets xs → (xs ≡ field_if b p.0 p.1) × Octets p.1
 field_made false xs p e o = let q : (record { tag = 0; number = 0 }, xs) ≡ p = cc in (ap (λ (r : SlotField × List ℕ). r.1) q, subst (λ (r : SlotField × List ℕ). Octets r.1) q o)
-field_made true [] p e o = let z : ◌≡◌ {A = ℕ} 0 1 = cc in absurd (omega arith)
-field_made true (t ∷ []) p e o = let z : ◌≡◌ {A = ℕ} 0 1 = cc in absurd (omega arith)
-field_made true (t ∷ a ∷ []) p e o = let z : ◌≡◌ {A = ℕ} 0 1 = cc in absurd (omega arith)
-field_made true (t ∷ a ∷ b ∷ []) p e o = let z : ◌≡◌ {A = ℕ} 0 1 = cc in absurd (omega arith)
-field_made true (t ∷ a ∷ b ∷ c ∷ []) p e o = let z : ◌≡◌ {A = ℕ} 0 1 = cc in absurd (omega arith)
+field_made true [] p e o = cc
+field_made true (t ∷ []) p e o = cc
+field_made true (t ∷ a ∷ []) p e o = cc
+field_made true (t ∷ a ∷ b ∷ []) p e o = cc
+field_made true (t ∷ a ∷ b ∷ c ∷ []) p e o = cc
 field_made true (t ∷ a ∷ b ∷ c ∷ d ∷ xs) p e o =
     let q : (record { tag = t; number = number4 a b c d }, xs) ≡ p = cc in
     let hb = o.1.1.0 in let hc = o.1.1.1.0 in let hd = o.1.1.1.1.0 in
@@ -60,7 +61,7 @@ Was zs p = (zs ≡ encoded p.0 p.1) × Octets p.1
 
 -- field by field, from the map on
 record_made : (xs : List ℕ) (p : NodeRecord × List ℕ) → record_of xs ≡ Some p → Octets xs → Was xs p
-record_made [] p e o = let z : ◌≡◌ {A = ℕ} 0 1 = cc in absurd (omega arith)
+record_made [] p e o = cc
 record_made (m ∷ xs) p e o =
     peel_byte (is_set m 1) xs p (λ l. Was (m ∷ l) p) _ o.1 e (λ k x1 o1 e1.
     peel_byte (is_set m 2) x1 p (λ l. Was (m ∷ byte_if (is_set m 1) k l) p) _ o1 e1 (λ f x2 o2 e2.
@@ -87,32 +88,32 @@ module _ (all n : ℕ) where
     where
       pick : (b : Bool) (q : NodeRecord × List ℕ) (f : ReadFault) → cond b (Ok q) (Err f) ≡ Ok p → q ≡ p
       pick true q f h = cc
-      pick false q f h = let z : ◌≡◌ {A = ℕ} 0 1 = cc in absurd (omega arith)
+      pick false q f h = cc
 
       go : (o : Option (NodeRecord × List ℕ)) → record_of xs ≡ o → laid all n (length xs) o ≡ Ok p → o ≡ Some p
-      go None q h = let z : ◌≡◌ {A = ℕ} 0 1 = cc in absurd (omega arith)
+      go None q h = cc
       go (Some y) q h = ap Some (pick (is_some (decoded n y.0)) y _ h)
 
   step : (k : ℕ) (xs : List ℕ) (rs : List NodeRecord) (ih : (ys : List ℕ) (qs : List NodeRecord) → Octets ys → nodes_of all n k ys ≡ Ok qs → ys ≡ encoded_all qs) (o : Result (NodeRecord × List ℕ) ReadFault)
       → node_of all n xs ≡ o → Octets xs → then o (nodes_of all n k) ≡ Ok rs → xs ≡ encoded_all rs
-  step k xs rs ih (Err f) q t e = let z : ◌≡◌ {A = ℕ} 0 1 = cc in absurd (omega arith)
+  step k xs rs ih (Err f) q t e = cc
   step k xs rs ih (Ok p) q t e = go (nodes_of all n k p.1) refl e
     where
       m : (xs ≡ encoded p.0 p.1) × Octets p.1
       m = record_made xs p (node_made xs p q) t
 
       go : (o : Result (List NodeRecord) ReadFault) → nodes_of all n k p.1 ≡ o → before (p.0 ∷ []) o ≡ Ok rs → xs ≡ encoded_all rs
-      go (Err f) u h = let z : ◌≡◌ {A = ℕ} 0 1 = cc in absurd (omega arith)
+      go (Err f) u h = cc
       go (Ok qs) u h = let w : (p.0 ∷ qs) ≡ rs = cc in m.0 ∙ (ap (encoded p.0) (ih p.1 qs m.1 u) ∙ (sym (encoded_cons p.0 qs) ∙ ap encoded_all w))
 
   nodes_made : (k : ℕ) (xs : List ℕ) (rs : List NodeRecord) → Octets xs → nodes_of all n k xs ≡ Ok rs → xs ≡ encoded_all rs
   nodes_made zero [] rs t e = let q : [] ≡ rs = cc (nodes_zero all n []) in sym encoded_none ∙ ap encoded_all q
-  nodes_made zero (x ∷ xs) rs t e = let z : ◌≡◌ {A = ℕ} 0 1 = cc (nodes_zero all n (x ∷ xs)) in absurd (omega arith)
+  nodes_made zero (x ∷ xs) rs t e = cc (nodes_zero all n (x ∷ xs))
   nodes_made (suc k) xs rs t e = step k xs rs (nodes_made k) (node_of all n xs) refl t (sym (nodes_suc all n k xs) ∙ e)
 
 -- what is read was so written
 pub reads_only : (xs : List ℕ) (rs : List NodeRecord) → Octets xs → rule_of xs ≡ Ok rs → xs ≡ encoded_rule rs
-reads_only [] rs t e = let z : ◌≡◌ {A = ℕ} 0 1 = cc in absurd (omega arith)
+reads_only [] rs t e = cc
 reads_only (n ∷ xs) rs t e = go (leb 1 n && leb n 128) e
   where
     go : (b : Bool) → cond b (nodes_of (length (n ∷ xs)) n n xs) (Err BadCount) ≡ Ok rs → (n ∷ xs) ≡ length rs ∷ encoded_all rs
@@ -120,4 +121,4 @@ reads_only (n ∷ xs) rs t e = go (leb 1 n && leb n 128) e
         let a : length rs ≡ n = nodes_length (length (n ∷ xs)) n n xs rs h in
         let b : xs ≡ encoded_all rs = nodes_made (length (n ∷ xs)) n n xs rs t.1 h in
         ap (λ (m : ℕ). m ∷ xs) (sym a) ∙ ap (λ (ys : List ℕ). length rs ∷ ys) b
-    go false h = let z : ◌≡◌ {A = ℕ} 0 1 = cc in absurd (omega arith)
+    go false h = cc

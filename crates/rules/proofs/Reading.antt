@@ -1,26 +1,10 @@
-use Rattle.std.proofs.Common.{◌≡◌, ℕ, zero, suc, ◌+◌, ◌-◌, ◌<◌, ◌≤◌, true, false, leb, List, [], ◌∷◌, ◌++◌, length, get_or, take, drop, set, is_ok, Some, Ok, Err, Result, sym, refl, ap, ◌∙◌, append_assoc, arith}
+use Rattle.std.proofs.Common.{◌≡◌, ℕ, zero, suc, ◌+◌, ◌-◌, ◌<◌, ◌≤◌, true, false, leb, List, [], ◌∷◌, ◌++◌, length, get_or, take, drop, set, is_ok, Ok, Err, Result, sym, refl, ap, ◌∙◌, append_assoc, arith}
 use Rattle.std.proofs.lemmas.Bool.{le-leb, lt-leb, false≢true}
-use Rattle.std.proofs.lemmas.List.{take_more_set, append-nil, length-take-le, take-append-drop, drop-set-lt, drop-drop}
+use Rattle.std.proofs.lemmas.List.{take_more_set, take_all, append-nil}
 use Rattle.rules.specs.declared.record.NodeRecord.{NodeRecord}
 use Rattle.rules.specs.declared.fault.ReadFault.{ReadFault}
-use Rattle.rules.specs.declared.fault.ReadFault.TheVariants.{Surplus, ListTooShort}
-use Rattle.rules.specs.Bytes.{byte_of, field_of, record_of, fields_of, number4, node_of, nodes_of, before, ending, then, checked, written, answered, rule_of}
-
-pub byte_read : (xs : List ℕ) → 1 ≤ length xs → byte_of true xs ≡ Some (get_or xs 0 0, drop 1 xs)
-byte_read [] h = absurd (omega arith)
-byte_read (a ∷ xs) h = refl
-
-pub field_read : (xs : List ℕ) → 5 ≤ length xs → field_of true xs ≡ Some (record { tag = get_or xs 0 0; number = number4 (get_or xs 1 0) (get_or xs 2 0) (get_or xs 3 0) (get_or xs 4 0) }, drop 5 xs)
-field_read [] h = absurd (omega arith)
-field_read (t ∷ []) h = absurd (omega arith)
-field_read (t ∷ a ∷ []) h = absurd (omega arith)
-field_read (t ∷ a ∷ b ∷ []) h = absurd (omega arith)
-field_read (t ∷ a ∷ b ∷ c ∷ []) h = absurd (omega arith)
-field_read (t ∷ a ∷ b ∷ c ∷ d ∷ xs) h = refl
-
-pub record_read : (xs : List ℕ) → 1 ≤ length xs → record_of xs ≡ fields_of (get_or xs 0 0) (drop 1 xs)
-record_read [] h = absurd (omega arith)
-record_read (a ∷ xs) h = refl
+use Rattle.rules.specs.declared.fault.ReadFault.TheVariants.{ListTooShort}
+use Rattle.rules.specs.Bytes.{node_of, nodes_of, before, ending, then, checked, written, answered, rule_of}
 
 module _ (all n : ℕ) where
   pub nodes_zero : (xs : List ℕ) → nodes_of all n 0 xs ≡ ending all xs
@@ -60,35 +44,15 @@ module _ (all n : ℕ) where
       → o ≡ before rs (nodes_of all n (n - i) xs) → ⊥
   fill_never o rs i xs f h e s p = let q : o ≡ Err f = p ∙ ap (before rs) (nodes_err all n n i xs f h e) in false≢true (rw q at s)
 
-pub drop_on : (r : NodeRecord) (list old : List NodeRecord) (i : ℕ) → drop i list ≡ drop i old → drop (i + 1) (set list i r) ≡ drop (i + 1) old
-drop_on r list old i e = drop-set-lt (i + 1) list i r (omega arith) ∙ (sym (drop-drop 1 i list) ∙ (ap (drop 1) e ∙ drop-drop 1 i old))
+-- after the last node the whole list is written
+filled_end : (all : ℕ) (xs : List ℕ) (list : List NodeRecord) → is_ok (before list (ending all xs)) ≡ true → before list (ending all xs) ≡ Ok list
+filled_end all [] list s = ap Ok (append-nil list)
+filled_end all (x ∷ xs) list s = cc
 
-fill_end : (all : ℕ) (xs : List ℕ) (n : ℕ) (new old : List NodeRecord) → is_ok (before (take n new) (ending all xs)) ≡ true → n ≤ length new → length new ≡ length old → drop n new ≡ drop n old
-    → new ≡ written (before (take n new) (ending all xs)) old
-fill_end all [] n new old s l e d =
-    let h : length (take n new) ≡ n = length-take-le n new l in
-    let b : leb n (length old) ≡ true = le-leb n (length old) (omega arith) in
-    rw (append-nil (take n new), h, b, ← d) (sym (take-append-drop n new))
-fill_end all (x ∷ xs) n new old s l e d = absurd (false≢true s)
-
-pub fill_done : (all c : ℕ) (o : Result (List NodeRecord) ReadFault) (xs : List ℕ) (n : ℕ) (new old : List NodeRecord) → is_ok o ≡ true → o ≡ before (take n new) (nodes_of all c 0 xs)
-    → n ≤ length new → length new ≡ length old → drop n new ≡ drop n old → new ≡ written o old
-fill_done all c o xs n new old s p l e d = let q : o ≡ before (take n new) (ending all xs) = p ∙ rw (nodes_zero all c xs) in rw q (fill_end all xs n new old (rw q at s) l e d)
-
-module _ (all n : ℕ) where
-  ends : (xs : List ℕ) → length xs ≡ 0 → checked (ending all xs) ≡ Ok tt
-  ends [] z = refl
-  ends (x ∷ xs) z = absurd (omega arith)
-
-  pub valid_ends : (xs : List ℕ) (o : Result (Unit {0}) ReadFault) → length xs ≡ 0 → checked (nodes_of all n 0 xs) ≡ o → Ok tt ≡ o
-  valid_ends xs o z p = sym (ends xs z) ∙ (sym (ap checked (nodes_zero all n xs)) ∙ p)
-
-  surplus : (xs : List ℕ) → 0 < length xs → checked (ending all xs) ≡ Err (Surplus (record { at = all - length xs; len = length xs }))
-  surplus [] z = absurd (omega arith)
-  surplus (x ∷ xs) z = refl
-
-  pub valid_surplus : (xs : List ℕ) (o : Result (Unit {0}) ReadFault) → 0 < length xs → checked (nodes_of all n 0 xs) ≡ o → Err (Surplus (record { at = all - length xs; len = length xs })) ≡ o
-  valid_surplus xs o z p = sym (surplus xs z) ∙ (sym (ap checked (nodes_zero all n xs)) ∙ p)
+pub filled : (all n : ℕ) (o : Result (List NodeRecord) ReadFault) (xs : List ℕ) (i : ℕ) (list : List NodeRecord) → is_ok o ≡ true → o ≡ before (take i list) (nodes_of all n 0 xs) → length list ≤ i → o ≡ Ok list
+filled all n o xs i list s p l =
+    let q : o ≡ before list (ending all xs) = p ∙ rw (nodes_zero all n xs, take_all i list l) in
+    q ∙ filled_end all xs list (rw q at s)
 
 pub rule_read : (xs : List ℕ) → 1 ≤ length xs → 1 ≤ get_or xs 0 0 → get_or xs 0 0 ≤ 128 → rule_of xs ≡ nodes_of (length xs) (get_or xs 0 0) (get_or xs 0 0) (drop 1 xs)
 rule_read [] h l m = absurd (omega arith)
@@ -101,11 +65,11 @@ module _ (all n : ℕ) where
 
   after : (k : ℕ) (ih : (ys : List ℕ) (qs : List NodeRecord) → nodes_of all n k ys ≡ Ok qs → length qs ≡ k) (o : Result (NodeRecord × List ℕ) ReadFault) (rs : List NodeRecord)
       → then o (nodes_of all n k) ≡ Ok rs → length rs ≡ suc k
-  after k ih (Err f) rs e = let z : ◌≡◌ {A = ℕ} 0 1 = cc in absurd (omega arith)
+  after k ih (Err f) rs e = cc
   after k ih (Ok p) rs e = go (nodes_of all n k p.1) refl e
     where
       go : (o : Result (List NodeRecord) ReadFault) → nodes_of all n k p.1 ≡ o → before (p.0 ∷ []) o ≡ Ok rs → length rs ≡ suc k
-      go (Err f) q h = let z : ◌≡◌ {A = ℕ} 0 1 = cc in absurd (omega arith)
+      go (Err f) q h = cc
       go (Ok qs) q h = let w : (p.0 ∷ qs) ≡ rs = cc in let d = ih p.1 qs q in rw (← w) (omega arith)
 
   pub nodes_length : (k : ℕ) (xs : List ℕ) (rs : List NodeRecord) → nodes_of all n k xs ≡ Ok rs → length rs ≡ k
@@ -113,17 +77,9 @@ module _ (all n : ℕ) where
   nodes_length zero (x ∷ xs) rs e = let z : ◌≡◌ {A = ℕ} 0 1 = cc (nodes_zero all n (x ∷ xs)) in absurd (omega arith)
   nodes_length (suc k) xs rs e = after k (nodes_length k) (node_of all n xs) rs (sym (nodes_suc k xs) ∙ e)
 
-pub err_answered : (o : Result (List NodeRecord) ReadFault) (f : ReadFault) (old : List NodeRecord) → Err f ≡ checked o → Err f ≡ answered o old
-err_answered (Err e) f old h = let q : f ≡ e = cc in rw q
-err_answered (Ok rs) f old h = let z : ◌≡◌ {A = ℕ} 0 1 = cc in absurd (omega arith)
-
-pub err_written : (o : Result (List NodeRecord) ReadFault) (f : ReadFault) (old : List NodeRecord) → Err f ≡ checked o → old ≡ written o old
-err_written (Err e) f old h = refl
-err_written (Ok rs) f old h = let z : ◌≡◌ {A = ℕ} 0 1 = cc in absurd (omega arith)
-
 module _ (all n : ℕ) (xs : List ℕ) (old : List NodeRecord) where
   short_answered : (o : Result (List NodeRecord) ReadFault) → nodes_of all n n xs ≡ o → Ok tt ≡ checked o → length old < n → (Err ListTooShort ≡ answered o old) × (old ≡ written o old)
-  short_answered (Err e) q h l = let z : ◌≡◌ {A = ℕ} 0 1 = cc in absurd (omega arith)
+  short_answered (Err e) q h l = cc
   short_answered (Ok rs) q h l =
       let d : length rs ≡ n = nodes_length all n n xs rs q in
       let b : leb (length rs) (length old) ≡ false = lt-leb (length rs) (length old) (omega arith) in
@@ -132,11 +88,7 @@ module _ (all n : ℕ) (xs : List ℕ) (old : List NodeRecord) where
   pub short_list : Ok tt ≡ checked (nodes_of all n n xs) → length old < n → (Err ListTooShort ≡ answered (nodes_of all n n xs) old) × (old ≡ written (nodes_of all n n xs) old)
   short_list h l = short_answered (nodes_of all n n xs) refl h l
 
-  full_answered : (o : Result (List NodeRecord) ReadFault) → nodes_of all n n xs ≡ o → Ok tt ≡ checked o → n ≤ length old → Ok n ≡ answered o old
-  full_answered (Err e) q h l = let z : ◌≡◌ {A = ℕ} 0 1 = cc in absurd (omega arith)
-  full_answered (Ok rs) q h l =
-      let d : length rs ≡ n = nodes_length all n n xs rs q in
-      rw (d, le-leb n (length old) l)
-
-  pub full_list : Ok tt ≡ checked (nodes_of all n n xs) → n ≤ length old → Ok n ≡ answered (nodes_of all n n xs) old
-  full_list h l = full_answered (nodes_of all n n xs) refl h l
+-- so many records that are read are written, where the list has room for them
+pub full_list : (xs : List ℕ) (rs old : List NodeRecord) → rule_of xs ≡ Ok rs → length rs ≡ get_or xs 0 0 → get_or xs 0 0 ≤ length old
+    → (Ok (get_or xs 0 0) ≡ answered (rule_of xs) old) × (rs ++ drop (get_or xs 0 0) old ≡ written (rule_of xs) old)
+full_list xs rs old q d l = let b = le-leb (get_or xs 0 0) (length old) l in (rw (q, d, b), rw (q, d, b))

@@ -1,15 +1,20 @@
 -- What the bytes of a rule say.
-use Rattle.std.specs.Prelude.{ℕ, zero, suc, ◌+◌, ◌-◌, ◌*◌, Bool, true, false, cond, ◌&&◌, List, [], ◌∷◌, ◌++◌, length, drop, is_some, Some, None, Ok, Err, Option, Result, nat_le}
+use Rattle.std.specs.Prelude.{ℕ, zero, suc, ◌+◌, ◌-◌, ◌*◌, Bool, true, false, cond, ◌&&◌, List, [], ◌∷◌, ◌++◌, length, take, drop, is_some, Some, None, Ok, Err, Option, Result, nat_le}
 use Rattle.rules.specs.declared.record.SlotField.{SlotField}
 use Rattle.rules.specs.declared.record.NodeRecord.{NodeRecord}
 use Rattle.rules.specs.declared.fault.ReadFault.{ReadFault}
 use Rattle.rules.specs.declared.fault.ReadFault.TheVariants.{EndsEarly, BadCount, BadLayout, Surplus, ListTooShort}
 use Rattle.refusals.specs.Options.{on}
-use Rattle.rules.specs.Layout.{most_nodes, is_set, decoded}
+use Rattle.rules.specs.Map.{is_set}
+use Rattle.rules.specs.Layout.{most_nodes, decoded}
 
 -- a number of four bytes, the highest first
 abbrev pub number4 : ℕ → ℕ → ℕ → ℕ → ℕ
 number4 a b c d = ((a * 256 + b) * 256 + c) * 256 + d
+
+-- so many bytes, and what follows them
+abbrev pub part_of : ℕ → List ℕ → Option (List ℕ × List ℕ)
+part_of n xs = cond (nat_le n (length xs)) (Some (take n xs, drop n xs)) None
 
 -- a field of one byte, if it is announced, and what follows it; else 0
 abbrev pub byte_of : Bool → List ℕ → Option (ℕ × List ℕ)

@@ -1,8 +1,10 @@
+pub mod Map
+pub mod Kinds
 pub mod Layout
 pub mod Bytes
 pub mod Writing
 pub mod Refusals
 pub mod Vars
+pub mod ByVar
+pub mod Text
 pub mod Spans
-pub mod Ops
-pub mod Numbers

@@ -3,7 +3,8 @@ use Rattle.std.specs.Prelude.{◌≡◌, ℕ, ◌/◌, ◌%◌, ◌≤◌, Bool,
 use Rattle.rules.specs.declared.record.SlotField.{SlotField}
 use Rattle.rules.specs.declared.record.NodeRecord.{NodeRecord}
 use Rattle.rules.specs.declared.fault.ReadFault.{ReadFault}
-use Rattle.rules.specs.Layout.{most_nodes, is_set, decoded}
+use Rattle.rules.specs.Map.{is_set}
+use Rattle.rules.specs.Layout.{most_nodes, decoded}
 
 -- a field before what follows, if its bit is set
 abbrev pub byte_if : Bool → ℕ → List ℕ → List ℕ

@@ -1,8 +1,9 @@
 // Why bytes are no rule, and what the refusal answers.
-ghost use Rattle.std.specs.Prelude.{◌≡◌};
+ghost use Rattle.std.specs.Prelude.{◌≡◌, Some};
 ghost use Rattle.rules.specs.Refusals.{refusal_of, cause_of};
 
 use refusals::{Layer, Place, Refusal, Span};
+use std::fmt;
 
 // Why reading refuses some bytes.
 #[derive(Clone, Copy)]
@@ -19,12 +20,11 @@ pub enum ReadFault {
     ListTooShort,
 }
 
-impl ReadFault {
-    // The number, layer and place of the refusal.
-    pub fn refusal(&self) -> Refusal
-        ensures { result ≡ refusal_of self.now }
-    {
-        let (number, place) = match *self {
+impl From<ReadFault> for Refusal {
+    ghost from_gives = { λ fault r. r ≡ refusal_of fault };
+
+    fn from(fault: ReadFault) -> Refusal {
+        let (number, place) = match fault {
             ReadFault::EndsEarly(end) => (1, Place::Bytes(Span { at: end, len: 0 })),
             ReadFault::BadCount => (2, Place::Bytes(Span { at: 0, len: 1 })),
             ReadFault::BadLayout(at) => (3, Place::Bytes(Span { at, len: 1 })),
@@ -36,6 +36,24 @@ impl ReadFault {
             layer: Layer::Reading,
             place,
         }
+    }
+}
+
+// The cause in plain words.
+impl fmt::Display for ReadFault {
+    ghost output = { λ fault. Some (cause_of fault) };
+
+    fn fmt<W: fmt::Write>(&self, f: &mut fmt::Formatter<W>) -> fmt::Result {
+        f.write_str(self.cause())
+    }
+}
+
+impl ReadFault {
+    // The number, layer and place of the refusal.
+    pub fn refusal(&self) -> Refusal
+        ensures { result ≡ refusal_of self.now }
+    {
+        Refusal::from(*self)
     }
 
     // The cause in plain words.

@@ -1,54 +1,25 @@
 // Which records the layout allows, and the node that each stands for.
-ghost use Rattle.std.specs.Prelude.{◌≡◌, ◌<◌};
-ghost use Rattle.rules.specs.Layout.{is_set, var_of, slot_of, pattern_of, is_constant, prefix_of, pair_of, binder_of, filter_of, decoded};
+ghost use Rattle.std.specs.Prelude.{◌≡◌};
+ghost use Rattle.rules.specs.Layout.{var_of, slot_of, pattern_of, is_constant, has_constants, patterned, prefix_of, pair_of, binder_of, filter_of, of_kind, decoded};
 
+use crate::kind::Kind;
+use crate::map::{Field, announces};
 use crate::node::{Node, Op, Pattern, Slot, Var};
 use crate::record::{NodeRecord, SlotField};
 
-// The bits of a map, each by the power of two that it stands for.
-pub(crate) const KIND: u8 = 1;
+// The maps of the kinds; a pattern may have any of the slots besides.
+const PATTERN_MAP: u8 = Field::Kind as u8 + Field::First as u8 + Field::Ty as u8;
 
-pub(crate) const FIRST: u8 = 2;
+const PAIR_MAP: u8 = Field::Kind as u8 + Field::First as u8 + Field::Second as u8;
 
-pub(crate) const SECOND: u8 = 4;
-
-pub(crate) const TYPE: u8 = 8;
-
-pub(crate) const VARIABLE: u8 = 16;
-
-pub(crate) const PLAYER: u8 = 32;
-
-pub(crate) const CARD: u8 = 64;
-
-pub(crate) const STROKES: u8 = 128;
-
-// The maps of the kinds; a pattern has any of the bits from `PLAYER` up besides.
-const PATTERN_MAP: u8 = KIND + FIRST + TYPE;
-
-const PAIR_MAP: u8 = KIND + FIRST + SECOND;
-
-const BINDER_MAP: u8 = KIND + FIRST + VARIABLE;
+const BINDER_MAP: u8 = Field::Kind as u8 + Field::First as u8 + Field::Variable as u8;
 
 const MOST_TYPE: u8 = 63;
-
-// Whether a map announces a field.
-pub(crate) fn announces(map: u8, field: u8) -> bool
-    requires { 0 < field }
-    ensures { result ≡ is_set map field }
-{
-    map / field % 2 == 1
-}
 
 fn var(n: u32) -> Option<Var>
     ensures { result ≡ var_of n }
 {
-    match n {
-        0 => Some(Var::V0),
-        1 => Some(Var::V1),
-        2 => Some(Var::V2),
-        3 => Some(Var::V3),
-        _ => None,
-    }
+    Var::try_from(n).ok()
 }
 
 fn slot(there: bool, f: SlotField) -> Option<Slot>
@@ -59,10 +30,7 @@ fn slot(there: bool, f: SlotField) -> Option<Slot>
     }
     match f.tag {
         0 => Some(Slot::Constant(f.number)),
-        1 => match var(f.number) {
-            Some(v) => Some(Slot::Variable(v)),
-            None => None,
-        },
+        1 => var(f.number).map(Slot::Variable),
         _ => None,
     }
 }
@@ -73,54 +41,47 @@ fn pattern(r: &NodeRecord) -> Option<Pattern>
     if r.ty > MOST_TYPE {
         return None;
     }
-    let Some(player) = slot(announces(r.map, PLAYER), r.player) else {
-        return None;
-    };
-    let Some(card) = slot(announces(r.map, CARD), r.card) else {
-        return None;
-    };
-    let Some(strokes) = slot(announces(r.map, STROKES), r.strokes) else {
-        return None;
-    };
     Some(Pattern {
         ty: r.ty,
-        player,
-        card,
-        strokes,
+        player: slot(announces(r.map, Field::Player), r.player)?,
+        card: slot(announces(r.map, Field::Card), r.card)?,
+        strokes: slot(announces(r.map, Field::Strokes), r.strokes)?,
     })
 }
 
-fn is_constant(s: Slot) -> bool
-    ensures { result ≡ is_constant s }
+// The pattern of a record that has one, and one child.
+fn patterned(r: &NodeRecord, count: u8) -> Option<Pattern>
+    ensures { result ≡ patterned count r.now }
 {
-    match s {
-        Slot::Variable(_) => false,
-        _ => true,
+    if r.map % Field::Player.bit() != PATTERN_MAP || r.first >= count {
+        return None;
     }
+    pattern(r)
 }
 
 fn prefix(r: &NodeRecord, count: u8) -> Option<Node>
     ensures { result ≡ prefix_of count r.now }
 {
-    if r.map % PLAYER != PATTERN_MAP || r.first >= count {
-        return None;
-    }
-    let Some(p) = pattern(r) else {
-        return None;
-    };
-    Some(Node::Prefix(p, r.first))
+    Some(Node::Prefix(patterned(r, count)?, r.first))
+}
+
+fn is_constant(s: Slot) -> bool
+    ensures { result ≡ is_constant s }
+{
+    !matches!(s, Slot::Variable(_))
+}
+
+fn has_constants(p: Pattern) -> bool
+    ensures { result ≡ has_constants p }
+{
+    is_constant(p.player) && is_constant(p.card) && is_constant(p.strokes)
 }
 
 fn filter(r: &NodeRecord, count: u8) -> Option<Node>
     ensures { result ≡ filter_of count r.now }
 {
-    if r.map % PLAYER != PATTERN_MAP || r.first >= count {
-        return None;
-    }
-    let Some(p) = pattern(r) else {
-        return None;
-    };
-    if is_constant(p.player) && is_constant(p.card) && is_constant(p.strokes) {
+    let p = patterned(r, count)?;
+    if has_constants(p) {
         Some(Node::Filter(p, r.first))
     } else {
         None
@@ -142,9 +103,18 @@ fn binder(r: &NodeRecord, count: u8) -> Option<Node>
     if r.map != BINDER_MAP || r.first >= count {
         return None;
     }
-    match var(r.variable as u32) {
-        Some(v) => Some(Node::Binder(v, r.first)),
-        None => None,
+    Some(Node::Binder(var(u32::from(r.variable))?, r.first))
+}
+
+// The node of a kind that a record stands for.
+fn of_kind(kind: Kind, r: &NodeRecord, count: u8) -> Option<Node>
+    ensures { result ≡ of_kind count r.now kind }
+{
+    match kind {
+        Kind::Prefix => prefix(r, count),
+        Kind::Pair(o) => pair(o, r, count),
+        Kind::Binder => binder(r, count),
+        Kind::Filter => filter(r, count),
     }
 }
 
@@ -155,14 +125,5 @@ pub fn decode(r: &NodeRecord, count: u8) -> Option<Node>
     if r.map == 0 {
         return Some(Node::Empty);
     }
-    match r.kind {
-        1 => prefix(r, count),
-        2 => pair(Op::Concat, r, count),
-        3 => pair(Op::And, r, count),
-        4 => pair(Op::Or, r, count),
-        5 => pair(Op::Shuffle, r, count),
-        6 => binder(r, count),
-        7 => filter(r, count),
-        _ => None,
-    }
+    of_kind(Kind::try_from(r.kind).ok()?, r, count)
 }

@@ -1,13 +1,9 @@
 // What a rule is made of.
-ghost use Rattle.std.specs.Prelude.{◌≡◌, Decides, nat_eq};
-ghost use Rattle.std.specs.Ordering.{on};
-ghost use Rattle.rules.specs.Vars.{index_of};
-ghost use Rattle.rules.specs.Ops.{number_of};
-ghost use Rattle.std.specs.Cmp.Rules.{comparing};
-ghost use Rattle.std.proofs.Common.{rules};
+ghost use Rattle.std.specs.Prelude.{◌≡◌};
+ghost use Rattle.rules.specs.Vars.{index_of, numbered};
 
 // A variable of a rule.
-#[derive(Clone, Copy)]
+#[derive(Clone, Copy, PartialEq, Eq)]
 pub enum Var {
     V0,
     V1,
@@ -16,11 +12,18 @@ pub enum Var {
 }
 
 impl Var {
-    // The variable's number.
-    pub fn index(self) -> u8
-        ensures { result ≡ index_of self }
-    {
-        match self {
+    pub const ALL: [Var; 4] = [Var::V0, Var::V1, Var::V2, Var::V3];
+}
+
+// A number that no variable has.
+#[derive(Clone, Copy, PartialEq, Eq)]
+pub struct UnknownVar(pub u32);
+
+impl From<Var> for u8 {
+    ghost from_gives = { λ v n. n ≡ index_of v };
+
+    fn from(v: Var) -> u8 {
+        match v {
             Var::V0 => 0,
             Var::V1 => 1,
             Var::V2 => 2,
@@ -29,21 +32,18 @@ impl Var {
     }
 }
 
-impl PartialEq for Var {
-    ghost eq = { on index_of nat_eq };
+impl TryFrom<u32> for Var {
+    type Error = UnknownVar;
 
-    ghost laws = { Prim.search (comparing, rules) };
+    ghost try_from_gives = { λ n v. v ≡ numbered n };
 
-    fn eq(&self, other: &Var) -> bool
-        ensures same { result ≡ nat_eq (index_of self.now) (index_of other.now) }
-        ensures decides { Decides result (self.now ≡ other.now) }
-    {
-        match (*self, *other) {
-            (Var::V0, Var::V0) => true,
-            (Var::V1, Var::V1) => true,
-            (Var::V2, Var::V2) => true,
-            (Var::V3, Var::V3) => true,
-            _ => false,
+    fn try_from(n: u32) -> Result<Var, UnknownVar> {
+        match n {
+            0 => Ok(Var::V0),
+            1 => Ok(Var::V1),
+            2 => Ok(Var::V2),
+            3 => Ok(Var::V3),
+            _ => Err(UnknownVar(n)),
         }
     }
 }
@@ -66,31 +66,12 @@ pub struct Pattern {
 }
 
 // How a pair joins its two children.
-#[derive(Clone, Copy)]
+#[derive(Clone, Copy, PartialEq, Eq)]
 pub enum Op {
     Or,
     And,
     Concat,
     Shuffle,
-}
-
-impl PartialEq for Op {
-    ghost eq = { on number_of nat_eq };
-
-    ghost laws = { Prim.search (comparing, rules) };
-
-    fn eq(&self, other: &Op) -> bool
-        ensures same { result ≡ nat_eq (number_of self.now) (number_of other.now) }
-        ensures decides { Decides result (self.now ≡ other.now) }
-    {
-        match (*self, *other) {
-            (Op::Or, Op::Or) => true,
-            (Op::And, Op::And) => true,
-            (Op::Concat, Op::Concat) => true,
-            (Op::Shuffle, Op::Shuffle) => true,
-            _ => false,
-        }
-    }
 }
 
 // A node of a rule; a number is that of a child.

@@ -10,6 +10,11 @@ pub struct SlotField {
     pub number: u32,
 }
 
+impl SlotField {
+    // What the bytes of a slot are, where they are not there.
+    pub(crate) const NONE: SlotField = SlotField { tag: 0, number: 0 };
+}
+
 // A node as the bytes lay it out. The bits of the map say which fields are there; another is 0, and counts for nothing.
 #[derive(Clone, Copy)]
 pub struct NodeRecord {
@@ -33,8 +38,8 @@ impl NodeRecord {
         second: 0,
         ty: 0,
         variable: 0,
-        player: SlotField { tag: 0, number: 0 },
-        card: SlotField { tag: 0, number: 0 },
-        strokes: SlotField { tag: 0, number: 0 },
+        player: SlotField::NONE,
+        card: SlotField::NONE,
+        strokes: SlotField::NONE,
     };
 }

@@ -1,10 +1,12 @@
-use Rattle.std.proofs.Common.{arith}
+use Rattle.std.proofs.Common.{ℕ, ◌+◌, ap, arith}
 use Rattle.rules.specs.Spans.{size_of}
+use Rattle.rules.proofs.Sizes.{size_most}
 use Rattle.rules.proofs.span.size.Goals as goal
+
+pub overflow_add-result : goal.overflow_add-result
+unfolding size_of
+overflow_add-result c = let m = size_most c.args.map in omega (arith, c.widths.ensures)
 
 pub returns : goal.returns
 unfolding size_of
-returns c = record {
-  is = cc (c.width.ensures.is, c.width-2.ensures.is, c.width-3.ensures.is, c.width-4.ensures.is, c.width-5.ensures.is, c.width-6.ensures.is, c.width-7.ensures.is, c.width-8.ensures.is);
-  most = omega arith;
-}
+returns c = let m = size_most c.args.map in record { is = ap (λ (k : ℕ). 1 + k) c.widths.ensures; most = omega (arith, c.widths.ensures) }

@@ -1,6 +1,7 @@
-use Rattle.std.proofs.Common.{arith}
+use Rattle.std.proofs.Common.{ap, ◌∙◌, arith}
 use Rattle.checking.specs.declared.links.Links.TheVariants.{Unguarded}
-use Rattle.checking.proofs.Nodes.{all_empty}
+use Rattle.checking.specs.FreeSets.{FreeSets, is_free}
+use Rattle.checking.proofs.Placing.{all_empty}
 use Rattle.checking.proofs.Emptied.{empty_inside, empty_link, empty_names, empty_passed, empty_loopless, empty_light, no_free}
 use Rattle.checking.proofs.rule.Rule.empty.Goals as goal
 
@@ -15,5 +16,5 @@ invariant_of-result c =
       falls = λ n k h. absurd (empty_link _ (all_empty 128 n) Unguarded k h);
       named = λ v n h. absurd (empty_names _ (all_empty 128 n) v h);
       carried = λ v n k. empty_passed _ (all_empty 128 n) _ n k v;
-      closed = λ v. no_free v 0;
+      closed = λ v. ap (λ (s : FreeSets). is_free s v 0) c.all.ensures ∙ no_free v 0;
     }

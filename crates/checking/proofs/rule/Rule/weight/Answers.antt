@@ -1,13 +1,13 @@
 use Rattle.checking.specs.Links.{node}
-use Rattle.checking.proofs.Weighed.{weighs_rest, never_over}
+use Rattle.checking.proofs.Weighed.{weighs_rest, is_left}
 use Rattle.checking.proofs.rule.Rule.weight.Goals as goal
 
-pub returns-in-Some : goal.returns-in-Some
-returns-in-Some c =
+pub unwrap-requires : goal.unwrap-requires
+unwrap-requires c =
     let self = c.args.self.now in
-    weighs_rest (node self.nodes) self.count self.most self.ranged self.loopless c.args.n c.in-Some.left c.in-Some.ensures.leaves
+    is_left (node self.nodes) self.count self.most self.ranged self.loopless c.args.n (self.light c.args.n) c.remaining.result c.remaining.ensures.leaves
 
-pub returns-in-None : goal.returns-in-None
-returns-in-None c =
+pub returns : goal.returns
+returns c =
     let self = c.args.self.now in
-    absurd (never_over (node self.nodes) self.count self.most self.ranged self.loopless c.args.n (self.light c.args.n) c.in-None.ensures.leaves)
+    weighs_rest (node self.nodes) self.count self.most self.ranged self.loopless c.args.n c.unwrap.result (rw c.unwrap.ensures at c.remaining.ensures.leaves)

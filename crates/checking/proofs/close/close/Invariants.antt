@@ -1,6 +1,0 @@
-use Rattle.std.proofs.Common.{◌≡◌, ℕ, ◌<◌}
-use Rattle.checking.specs.Paths.{in_row, reach}
-use Rattle.checking.proofs.close.close.Given as goal
-
-abbrev pub invariant-loop-k : goal.invariant-loop-k
-invariant-loop-k l = (i j : ℕ) → i < 128 → in_row l.rows i j ≡ reach (in_row l.initial.rows) l.k i j
