@@ -1,6 +1,6 @@
 -- A node may end just as its kind says of its children, whatever depth above the rank bounds the recursion.
-use Rattle.std.proofs.Common.{◌≡◌, ℕ, zero, suc, ◌<◌, Bool, sym, refl, ap, ◌∙◌, ap₂, arith}
-use Rattle.calculus.specs.Vocabulary.{Binder, Empty, Filter, Node, Op, Pair, Pattern, Prefix, Rule, Var}
+use Rattle.std.proofs.Common.{◌≡◌, ℕ, zero, suc, ◌<◌, Bool, ◌&&◌, ◌||◌, ◌⊎◌, sym, refl, ap, ◌∙◌, ap₂, inl, inr, arith}
+use Rattle.calculus.specs.Vocabulary.{And, Binder, Concat, Empty, Filter, Node, Op, Or, Pair, Pattern, Prefix, Rule, Shuffle, Var}
 use Rattle.calculus.specs.Graphs.{Graph, graph_of, WellFormed, WellFormedAt}
 use Rattle.calculus.specs.States.{node_ends, pair_ends}
 use Rattle.calculus.proofs.Local.{fine}
@@ -37,6 +37,15 @@ module _ (r : Rule) where
       let F : WellFormedAt G n (Pair o a b) = fine G (well_formed r) n (sym q) in
       sym (ap₂ (pair_ends o) (below n a F.0) (below n b F.1)) ∙ ap (node_ends G (suc (G.rank n))) q
 
+  -- an or ends where either side does, any other pair where both do
+  pub ends_either : (n : ℕ) (o : Op) (a b : ℕ) → o ≡ Or → Pair o a b ≡ G.node n → (NodeEnds a || NodeEnds b) ≡ NodeEnds n
+  ends_either n o a b i q = ap (λ (p : Op). pair_ends p (NodeEnds a) (NodeEnds b)) (sym i) ∙ ends_pair n o a b q
+
+  pub ends_both : (n : ℕ) (o : Op) (a b : ℕ) → (o ≡ And) ⊎ ((o ≡ Concat) ⊎ (o ≡ Shuffle)) → Pair o a b ≡ G.node n → (NodeEnds a && NodeEnds b) ≡ NodeEnds n
+  ends_both n o a b (inl i) q = ap (λ (p : Op). pair_ends p (NodeEnds a) (NodeEnds b)) (sym i) ∙ ends_pair n o a b q
+  ends_both n o a b (inr (inl i)) q = ap (λ (p : Op). pair_ends p (NodeEnds a) (NodeEnds b)) (sym i) ∙ ends_pair n o a b q
+  ends_both n o a b (inr (inr i)) q = ap (λ (p : Op). pair_ends p (NodeEnds a) (NodeEnds b)) (sym i) ∙ ends_pair n o a b q
+
   pub ends_binder : (n : ℕ) (v : Var) (c : ℕ) → Binder v c ≡ G.node n → NodeEnds c ≡ NodeEnds n
   ends_binder n v c q =
       let F : WellFormedAt G n (Binder v c) = fine G (well_formed r) n (sym q) in
@@ -46,11 +55,3 @@ module _ (r : Rule) where
   ends_filter n p c q =
       let F : WellFormedAt G n (Filter p c) = fine G (well_formed r) n (sym q) in
       sym (below n c F.0) ∙ ap (node_ends G (suc (G.rank n))) q
-
-  -- the left side alone decides, or the right side does
-  pub ends_left : (n : ℕ) (o : Op) (a b : ℕ) (x : Bool) → Pair o a b ≡ G.node n → x ≡ NodeEnds a → ((y : Bool) → pair_ends o x y ≡ x) → x ≡ NodeEnds n
-  ends_left n o a b x q e d = sym (d (NodeEnds b)) ∙ ap (λ (z : Bool). pair_ends o z (NodeEnds b)) e ∙ ends_pair n o a b q
-
-  pub ends_right : (n : ℕ) (o : Op) (a b : ℕ) (x y : Bool) → Pair o a b ≡ G.node n → x ≡ NodeEnds a → y ≡ NodeEnds b →
-      ((z : Bool) → pair_ends o x z ≡ z) → y ≡ NodeEnds n
-  ends_right n o a b x y q e f d = sym (d y) ∙ ap₂ (pair_ends o) e f ∙ ends_pair n o a b q

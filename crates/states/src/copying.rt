@@ -2,17 +2,28 @@
 ghost use Rattle.std.specs.Prelude.{◌≡◌, IfOk};
 ghost use Rattle.states.specs.State.{state};
 
-use crate::tree::{Tree, binder, filter, pair};
-use std::alloc::{AllocError, Global};
+use crate::tree::Tree;
+use std::alloc::AllocError;
 
-// A tree of the same state; there is none only for want of memory.
-pub fn copy(heap: Global, tree: &Tree) -> Result<Tree, AllocError>
-    ensures { IfOk result (λ t. state t ≡ state tree.now) }
-{
-    match tree {
-        Tree::Leaf(n, numbers) => Ok(Tree::Leaf(*n, *numbers)),
-        Tree::Pair(op, left, right) => pair(heap, *op, copy(heap, left)?, copy(heap, right)?),
-        Tree::Binder(v, below) => binder(heap, *v, copy(heap, below)?),
-        Tree::Filter(n, below) => filter(heap, *n, copy(heap, below)?),
+impl Clone for Tree {
+    ghost is_clone = { λ t u. state u ≡ state t };
+
+    // A tree of the same state; there is none only for want of memory.
+    fn clone(&self) -> Result<Tree, AllocError>
+        ensures { IfOk result (λ t. state t ≡ state self.now) }
+    {
+        match self {
+            Tree::Leaf(n, numbers) => Ok(Tree::Leaf(*n, *numbers)),
+            Tree::Pair(op, left, right) => {
+                let heap = *Box::allocator(left);
+                Tree::pair(heap, *op, (**left).clone()?, (**right).clone()?)
+            }
+            Tree::Binder(v, below) => {
+                Tree::binder(*Box::allocator(below), *v, (**below).clone()?)
+            }
+            Tree::Filter(n, below) => {
+                Tree::filter(*Box::allocator(below), *n, (**below).clone()?)
+            }
+        }
     }
 }

@@ -3,7 +3,7 @@ ghost use Rattle.std.specs.Prelude.{◌≡◌};
 ghost use Rattle.calculus.specs.Matching.{bind_slot, bind as bind_of, passes_at};
 ghost use Rattle.calculus.specs.Graphs.{graph_of};
 
-use crate::substitution::{NO_NUMBERS, assign, lookup, or_else};
+use crate::substitution::{NO_NUMBERS, assign, lookup};
 use checking::rule::Rule;
 use events::meaning::Meaning;
 use rules::node::{Node, Pattern, Slot};
@@ -20,17 +20,14 @@ fn bind_slot(
 {
     match slot {
         Slot::Any => Some(binding),
-        Slot::Constant(k) => match held {
-            Some(j) => { if j == k { Some(binding) } else { None } }
-            None => None,
-        },
-        Slot::Variable(v) => match held {
-            Some(j) => match or_else(lookup(numbers, v), lookup(binding, v)) {
-                Some(k) => { if j == k { Some(binding) } else { None } }
+        Slot::Constant(k) => (held? == k).then_some(binding),
+        Slot::Variable(v) => {
+            let j = held?;
+            match lookup(numbers, v).or(lookup(binding, v)) {
+                Some(k) => (j == k).then_some(binding),
                 None => Some(assign(binding, v, j)),
-            },
-            None => None,
-        },
+            }
+        }
     }
 }
 
@@ -51,13 +48,7 @@ pub fn passes(rule: &Rule, n: u8, event: &Meaning) -> bool
     ensures { result ≡ passes_at ((graph_of rule.now).node n) event.now }
 {
     match rule.node(n) {
-        Node::Filter(pattern, _) => match bind(NO_NUMBERS, pattern, event) {
-            Some(_) => true,
-            None => false,
-        },
-        Node::Empty => true,
-        Node::Prefix(_, _) => true,
-        Node::Pair(_, _, _) => true,
-        Node::Binder(_, _) => true,
+        Node::Filter(pattern, _) => bind(NO_NUMBERS, pattern, event).is_some(),
+        Node::Empty | Node::Prefix(_, _) | Node::Pair(_, _, _) | Node::Binder(_, _) => true,
     }
 }

@@ -15,11 +15,8 @@ use rules::substitution::Substitution;
 fn settle_leaf(rule: &Rule, n: u8, numbers: Substitution, v: Var, k: u32) -> Substitution
     ensures { result ≡ settle_leaf ((graph_of rule.now).free n v) (lookup_of numbers v) v k numbers }
 {
-    if rule.is_free(v, n) {
-        match lookup(numbers, v) {
-            None => assign(numbers, v, k),
-            Some(_) => numbers,
-        }
+    if rule.is_free(v, n) && lookup(numbers, v).is_none() {
+        assign(numbers, v, k)
     } else {
         numbers
     }

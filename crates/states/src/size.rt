@@ -10,16 +10,10 @@ use crate::tree::Tree;
 pub fn remaining(tree: &Tree, limit: usize) -> Option<usize>
     ensures { SomeIff result (cells (state tree.now) ≤ limit) (limit - cells (state tree.now)) }
 {
-    if limit == 0 {
-        return None;
-    }
+    let rest = limit.checked_sub(1)?;
     match tree {
-        Tree::Leaf(_, _) => Some(limit - 1),
-        Tree::Pair(_, left, right) => match remaining(left, limit - 1) {
-            Some(rest) => remaining(right, rest),
-            None => None,
-        },
-        Tree::Binder(_, below) => remaining(below, limit - 1),
-        Tree::Filter(_, below) => remaining(below, limit - 1),
+        Tree::Leaf(_, _) => Some(rest),
+        Tree::Pair(_, left, right) => remaining(right, remaining(left, rest)?),
+        Tree::Binder(_, below) | Tree::Filter(_, below) => remaining(below, rest),
     }
 }

@@ -1,11 +1,11 @@
 -- Adding a list in parts, each element that is not there yet, where a test says that a list is too large.
-use Rattle.std.proofs.Common.{◌≡◌, Bool, true, false, cond, List, [], ◌∷◌, ◌++◌, length, IsErrAnd, Ok, Err, Result, sym, refl, ap, ◌∙◌, subst, arith}
+use Rattle.std.proofs.Common.{◌≡◌, Bool, true, false, cond, List, [], ◌∷◌, ◌++◌, length, sym, refl, ap, ◌∙◌, arith}
 use Rattle.std.specs.Vec.Iter.{into_iter_items, into_iter_len}
 use Rattle.std.specs.declared.vec.IntoIter.{IntoIter}
 use Rattle.calculus.specs.Lists.{member, once}
 use Rattle.stepping.specs.declared.fault.StepFault.{StepFault}
 use Rattle.stepping.specs.declared.fault.StepFault.TheVariants.{Full, Memory}
-use Rattle.stepping.specs.Adding.{Says, Adds}
+use Rattle.stepping.specs.Adding.{Says}
 
 -- a fault that says a says b, where a implies b
 pub says_more : (a b : Bool) (f : StepFault) → (a ≡ true → b ≡ true) → Says a f → Says b f
@@ -13,9 +13,8 @@ says_more a b Full g h = g h
 says_more a b Memory g h = tt
 
 -- the loop invariant: ws are to be added to xs; so far that gave ys, and adding zs, which are left, gives the whole
-pub record Runs {A : Type 0} (eq : A → A → Bool) (large : List A → Bool) (xs ws ys zs : List A) : Type 0 where
+pub record Runs {A : Type 0} (eq : A → A → Bool) (xs ws ys zs : List A) : Type 0 where
   pub left : once eq ys zs ≡ once eq xs ws
-  pub fits : large ys ≡ false
 
 -- none is left of a list that gives its items
 pub none_left : {X Z : Type 0} (s : IntoIter X Z) → into_iter_len s ≡ 0 → into_iter_items s ≡ []
@@ -30,21 +29,18 @@ module _ {A : Type 0} (eq : A → A → Bool) where
   once_append xs [] zs = refl
   once_append xs (y ∷ ys) zs = once_append (cond (member eq y xs) xs (xs ++ y ∷ [])) ys zs
 
-module _ {A : Type 0} (eq : A → A → Bool) (large : List A → Bool) where
   -- a turn of the loop, and its end
-  pub goes : {xs ws ys zs bs : List A} (us rest : List A) → zs ≡ us ++ rest → Runs eq large xs ws ys zs →
-      (bs ≡ once eq ys us) × (large bs ≡ false) → Runs eq large xs ws bs rest
+  pub goes : {xs ws ys zs bs : List A} (us rest : List A) → zs ≡ us ++ rest → Runs eq xs ws ys zs → bs ≡ once eq ys us → Runs eq xs ws bs rest
   goes {xs} {ws} {ys} {zs} {bs} us rest z h a = record {
-    left = ap (λ (l : List A). once eq l rest) a.0 ∙ sym (once_append eq ys us rest) ∙ ap (once eq ys) (sym z) ∙ h.left;
-    fits = a.1;
+    left = ap (λ (l : List A). once eq l rest) a ∙ sym (once_append ys us rest) ∙ ap (once eq ys) (sym z) ∙ h.left;
   }
 
-  pub done : {xs ws vs ys zs : List A} → ws ≡ vs → zs ≡ [] → Runs eq large xs ws ys zs → (ys ≡ once eq xs vs) × (large ys ≡ false)
-  done {xs} {ws} {vs} {ys} {zs} w z h = (ap (once eq ys) (sym z) ∙ h.left ∙ ap (once eq xs) w, h.fits)
+  pub done : {xs ws vs ys zs : List A} → ws ≡ vs → zs ≡ [] → Runs eq xs ws ys zs → ys ≡ once eq xs vs
+  done {xs} {ws} {vs} {ys} {zs} w z h = ap (once eq ys) (sym z) ∙ h.left ∙ ap (once eq xs) w
 
   -- a list that is too large stays so
-  module _ (kept : (xs : List A) (x : A) → large xs ≡ true → large (xs ++ x ∷ []) ≡ true) where
-    large_grows : (xs zs : List A) → large xs ≡ true → large (once eq xs zs) ≡ true
+  module _ (large : List A → Bool) (kept : (xs : List A) (x : A) → large xs ≡ true → large (xs ++ x ∷ []) ≡ true) where
+    pub large_grows : (xs zs : List A) → large xs ≡ true → large (once eq xs zs) ≡ true
     large_grows xs [] q = q
     large_grows xs (z ∷ zs) q = large_grows (cond (member eq z xs) xs (xs ++ z ∷ [])) zs (go (member eq z xs))
       where
@@ -52,15 +48,12 @@ module _ {A : Type 0} (eq : A → A → Bool) (large : List A → Bool) where
         go true = q
         go false = kept xs z q
 
-    pub too_large : {xs ws ys zs : List A} (us rest : List A) → zs ≡ us ++ rest → Runs eq large xs ws ys zs → large (once eq ys us) ≡ true →
-        large (once eq xs ws) ≡ true
+    pub too_large : {xs ws ys zs : List A} (us rest : List A) → zs ≡ us ++ rest → Runs eq xs ws ys zs → large (once eq ys us) ≡ true → large (once eq xs ws) ≡ true
     too_large {xs} {ws} {ys} {zs} us rest z h q =
-        ap large (sym h.left ∙ ap (once eq ys) z ∙ once_append eq ys us rest) ∙ large_grows (once eq ys us) rest q
+        ap large (sym h.left ∙ ap (once eq ys) z ∙ once_append ys us rest) ∙ large_grows (once eq ys us) rest q
 
     -- the loop stops at a fault
-    pub stops : {xs ws vs ys zs : List A} (us rest cs : List A) (q : Result (Unit {0}) StepFault) (f : StepFault) → ws ≡ vs → zs ≡ us ++ rest →
-        Runs eq large xs ws ys zs → Says (large (once eq ys us)) f → IsErrAnd q (λ y. y ≡ f) → Adds eq large xs vs cs q
-    stops us rest cs (Ok u) f w z h a e = absurd e
-    stops {xs} {ws} {vs} {ys} {zs} us rest cs (Err y) f w z h a e =
-        subst (Says (large (once eq xs vs))) (sym e)
-        (says_more (large (once eq ys us)) (large (once eq xs vs)) f (λ p. ap (λ (l : List A). large (once eq xs l)) (sym w) ∙ too_large us rest z h p) a)
+    pub stops : {xs ws vs ys zs : List A} (us rest : List A) (f : StepFault) → ws ≡ vs → zs ≡ us ++ rest → Runs eq xs ws ys zs →
+        Says (large (once eq ys us)) f → Says (large (once eq xs vs)) f
+    stops {xs} {ws} {vs} {ys} {zs} us rest f w z h a =
+        says_more (large (once eq ys us)) (large (once eq xs vs)) f (λ p. ap (λ (l : List A). large (once eq xs l)) (sym w) ∙ too_large us rest z h p) a

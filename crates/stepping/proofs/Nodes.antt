@@ -1,6 +1,5 @@
 -- From what the calls gave to the step of a leaf, by the kind of its node.
-use Rattle.std.proofs.Common.{◌≡◌, ℕ, suc, Bool, true, false, ◌&&◌, List, [], ◌∷◌, Ok, vec_items, Vec, sym, ap, ◌∙◌}
-use Rattle.std.specs.declared.alloc.Global.{Global}
+use Rattle.std.proofs.Common.{◌≡◌, ℕ, suc, Bool, true, false, ◌&&◌, List, [], ◌∷◌, Ok, sym, ap, ◌∙◌}
 use Rattle.calculus.specs.Vocabulary.{Binder, Empty, Filter, Meaning, Node, None, Op, Option, Pair, Pattern, Prefix, Rule, Some, Substitution, Var}
 use Rattle.calculus.specs.Numbers.{no_numbers, without}
 use Rattle.calculus.specs.Matching.{bind, passes_at}
@@ -14,12 +13,12 @@ use Rattle.calculus.proofs.Checked.{well_formed}
 use Rattle.calculus.proofs.Listing.{outcomes_pair, outcomes_binder, outcomes_filter}
 use Rattle.calculus.proofs.Filling.{full_pair, full_binder, full_filter}
 use Rattle.std.proofs.lemmas.Bool.{or_right, and_from}
-use Rattle.stepping.specs.declared.outcome.Outcome.{Outcome}
-use Rattle.stepping.specs.Listed.{outcomes_of}
-use Rattle.stepping.specs.Adding.{Collects}
+use Rattle.stepping.specs.declared.outcomes.Outcomes.{Outcomes}
+use Rattle.stepping.specs.Adding.{Collects, outcomes_in}
 use Rattle.stepping.specs.Wrapping.{outcomes_under_filter}
 use Rattle.stepping.specs.Stepping.{Stepped}
-use Rattle.stepping.proofs.Steps.{Answer, or_none, and_off, and_right, gives_to, is_stepped, stepped_is, stepped_as, by_list, none_stepped}
+use Rattle.stepping.proofs.Collecting.{Answer, gives_to}
+use Rattle.stepping.proofs.Steps.{or_none, and_off, and_right, is_stepped, stepped_is, stepped_as, by_list, none_stepped}
 
 module _ (rule : Rule) (e : Meaning) where
   abbrev G : Graph
@@ -34,7 +33,7 @@ module _ (rule : Rule) (e : Meaning) where
   full_at : (n : ℕ) (σ : Substitution) (nd : Node) → nd ≡ G.node n → node_full G e (suc (G.rank n)) n σ nd ≡ full G e (leaf n σ)
   full_at n σ nd q = ap (node_full G e (suc (G.rank n)) n σ) q
 
-  pub at_empty : (n : ℕ) (σ : Substitution) (v : Vec Outcome Global) → Empty ≡ G.node n → vec_items v ≡ [] → Stepped rule e (leaf n σ) (Ok v)
+  pub at_empty : (n : ℕ) (σ : Substitution) (v : Outcomes) → Empty ≡ G.node n → outcomes_in v ≡ [] → Stepped rule e (leaf n σ) (Ok v)
   at_empty n σ v q i = none_stepped rule e (leaf n σ) v (sym (outcomes_at n σ Empty q)) (full_at n σ Empty q) i
 
   -- a prefix, with a match and without
@@ -45,8 +44,8 @@ module _ (rule : Rule) (e : Meaning) where
       (ap (λ (w : State). (w, β) ∷ []) s ∙ ap (λ (o : Option Substitution). on_match o (child G t σ)) b ∙ outcomes_at n σ (Prefix p t) q)
       (full_at n σ (Prefix p t) q) h
 
-  pub at_no_match : (n : ℕ) (σ : Substitution) (p : Pattern) (t : ℕ) (v : Vec Outcome Global) → Prefix p t ≡ G.node n → None ≡ bind σ p e →
-      vec_items v ≡ [] → Stepped rule e (leaf n σ) (Ok v)
+  pub at_no_match : (n : ℕ) (σ : Substitution) (p : Pattern) (t : ℕ) (v : Outcomes) → Prefix p t ≡ G.node n → None ≡ bind σ p e →
+      outcomes_in v ≡ [] → Stepped rule e (leaf n σ) (Ok v)
   at_no_match n σ p t v q b i =
       none_stepped rule e (leaf n σ) v
       (sym (ap (λ (o : Option Substitution). on_match o (child G t σ)) b ∙ outcomes_at n σ (Prefix p t) q)) (full_at n σ (Prefix p t) q) i
@@ -67,12 +66,12 @@ module _ (rule : Rule) (e : Meaning) where
       (stepped_is rule e s r h))
 
   -- a filter that the event passes, one that it does not pass, and one that is full below
-  pub at_filter : (n : ℕ) (σ : Substitution) (p : Pattern) (c : ℕ) (s : State) (v : Vec Outcome Global) (r : Answer) → Filter p c ≡ G.node n →
-      true ≡ passes_at (G.node n) e → s ≡ child G c σ → Stepped rule e s (Ok v) → Collects (gather (outcomes_under_filter n) (outcomes_of (vec_items v))) r →
+  pub at_filter : (n : ℕ) (σ : Substitution) (p : Pattern) (c : ℕ) (s : State) (v : Outcomes) (r : Answer) → Filter p c ≡ G.node n →
+      true ≡ passes_at (G.node n) e → s ≡ child G c σ → Stepped rule e s (Ok v) → Collects (gather (outcomes_under_filter n) (outcomes_in v)) r →
       Stepped rule e (leaf n σ) r
   at_filter n σ p c s v r q l w g h =
       let k = stepped_is rule e (child G c σ) (Ok v) (stepped_as rule e (Ok v) w g) in
-      by_list rule e (leaf n σ) (gather (outcomes_under_filter n) (outcomes_of (vec_items v))) r
+      by_list rule e (leaf n σ) (gather (outcomes_under_filter n) (outcomes_in v)) r
       (ap (λ (xs : List Out). unique (gather (outcomes_under_filter n) xs)) k.0 ∙ ap (λ (b : Bool). filter_outcomes n b (leaf n σ) (outcomes G e (child G c σ))) l ∙
       sym (outcomes_filter G W e n σ p c (sym q)))
       (sym (full_filter G W e n σ p c (sym q) ∙ or_none (overflowing (outcomes G e (leaf n σ))) (passes_at (G.node n) e && full G e (child G c σ))

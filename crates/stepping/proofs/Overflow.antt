@@ -1,33 +1,34 @@
 -- Lists of outcomes that overflow, or do not, with one outcome more.
-use Rattle.std.proofs.Common.{◌≡◌, ℕ, ◌+◌, ◌<◌, ◌≤◌, Bool, true, false, ◌||◌, ltb, List, [], ◌∷◌, ◌++◌, length, get_or, drop, Decides, sym, refl, ap, ◌∙◌, inl, inr, arith, length-append, ltb-true, le-ltb, lt-ltb}
+use Rattle.std.proofs.Common.{◌≡◌, ℕ, ◌-◌, ◌<◌, ◌≤◌, Bool, true, false, cond, ◌&&◌, ◌||◌, ltb, List, [], ◌∷◌, ◌++◌, length, is_some, None, Some, Option, sym, refl, ap, ap₂, ◌∙◌, inl, inr, arith, length-append, ltb-true, le-ltb, lt-ltb}
 use borrow.Author.Tests.{clash}
-use Rattle.std.proofs.lemmas.List.{drop_more}
+use Rattle.std.specs.List.{list_any}
+use Rattle.std.specs.Option.{SomeIff}
+use Rattle.std.proofs.lemmas.Bool.{false≢true, true≢false}
+use Rattle.std.proofs.lemmas.List.{length-map, map_push}
+use Rattle.states.specs.State.{state}
 use Rattle.calculus.specs.States.{cells}
 use Rattle.calculus.specs.Equality.{same_outcome}
 use Rattle.calculus.specs.Lists.{member, once}
 use Rattle.calculus.specs.Steps.{Outcome as Out}
 use Rattle.calculus.specs.Fullness.{any_large, overflowing}
-use Rattle.calculus.proofs.Equality.{same_out_eq}
-use Rattle.calculus.proofs.Equality.{same_out_refl}
+use Rattle.states.proofs.Equal.{numbers_same, tree_same}
+use Rattle.stepping.specs.contracts.outcome.OutcomePartialEq.TheImpl.{ghosts}
 use Rattle.std.proofs.lemmas.Bool.{or_cases, or_left, or_right}
 use Rattle.stepping.specs.declared.outcome.Outcome.{Outcome}
 use Rattle.stepping.specs.Listed.{outcome_of, outcomes_of}
 
--- a test that decides equality is the test of the calculus
-decides_same : (b : Bool) (x y : Out) → Decides b (x ≡ y) → same_outcome x y ≡ b
-decides_same true x y d = ap (same_outcome x) (sym (d.0 refl)) ∙ same_out_refl x
-decides_same false x y d = go (same_outcome x y) refl
-  where
-    go : (c : Bool) → same_outcome x y ≡ c → c ≡ false
-    go true q = sym (d.1 (same_out_eq x y q))
-    go false q = refl
+-- a search by equality of outcomes in memory is that of the calculus
+outcome_same : (p o : Outcome) → ghosts.eq p o ≡ same_outcome (outcome_of p) (outcome_of o)
+outcome_same p o = ap₂ (λ (a b : Bool). a && b) (tree_same p.tree o.tree) (numbers_same p.binding o.binding)
 
--- one element of the list that is searched
-pub search_on : (os : List Outcome) (i : ℕ) (p : Outcome) (x : Out) (b : Bool) → i < length os → p ≡ get_or os i p → Decides b (outcome_of p ≡ x) →
-    member same_outcome x (outcomes_of (drop i os)) ≡ (b || member same_outcome x (outcomes_of (drop (i + 1) os)))
-search_on os i p x b h is d =
-    ap (λ (l : List Outcome). member same_outcome x (outcomes_of l)) (drop_more os i p h ∙ ap (λ (q : Outcome). q ∷ drop (i + 1) os) (sym is)) ∙
-    ap (λ (c : Bool). c || member same_outcome x (outcomes_of (drop (i + 1) os))) (decides_same b (outcome_of p) x d)
+pub member_is : (o : Outcome) (os : List Outcome) → list_any (λ p. ghosts.eq p o) os ≡ member same_outcome (outcome_of o) (outcomes_of os)
+member_is o [] = refl
+member_is o (p ∷ os) = ap₂ (λ (a b : Bool). a || b) (outcome_same p o) (member_is o os)
+
+-- what the search of a list in memory says
+pub member_by : (o : Outcome) (os ps : List Outcome) (b : Bool) → ps ≡ os → b ≡ list_any (λ p. ghosts.eq p o) ps →
+    member same_outcome (outcome_of o) (outcomes_of os) ≡ b
+member_by o os ps b e q = sym (q ∙ ap (list_any (λ p. ghosts.eq p o)) e ∙ member_is o os)
 
 or_neither : (a b : Bool) → (a || b) ≡ false → (a ≡ false) × (b ≡ false)
 or_neither true b q = absurd (clash (sym q))
@@ -61,6 +62,27 @@ overflow_kept xs x q =
       | inl h ↦ overflow_many xs x (let k : 16 < length xs = ltb-true 16 (length xs) h in omega arith)
       | inr h ↦ or_right (ltb 16 (length (xs ++ x ∷ []))) (any_large (xs ++ x ∷ [])) (large_append xs (x ∷ []) ∙ or_left (any_large xs) (any_large (x ∷ [])) h)
     ]
+
+-- what is left of a limit says whether a state is over it
+pub is_large : (r : Option ℕ) (n m : ℕ) → SomeIff r (n ≤ m) (m - n) → is_some r ≡ false → m < n
+is_large None n m h q = omega (arith, h)
+is_large (Some x) n m h q = absurd (true≢false q)
+
+pub is_small : (r : Option ℕ) (n m : ℕ) → SomeIff r (n ≤ m) (m - n) → is_some r ≡ true → n ≤ m
+is_small None n m h q = absurd (false≢true q)
+is_small (Some x) n m h q = h.0
+
+-- a list that an outcome was pushed to, where there was memory
+pub pushed_fits : (b : Bool) (ys xs : List Outcome) (o : Outcome) → ys ≡ cond b (xs ++ o ∷ []) xs → overflowing (outcomes_of xs) ≡ false →
+    cells (state o.tree) ≤ 64 → length xs < 16 → overflowing (outcomes_of ys) ≡ false
+pushed_fits true ys xs o e fits small few =
+    ap (λ (l : List Outcome). overflowing (outcomes_of l)) e ∙ ap overflowing (map_push outcome_of xs o) ∙
+    fits_more (outcomes_of xs) (outcome_of o) fits small (simp length-map few)
+pushed_fits false ys xs o e fits small few = ap (λ (l : List Outcome). overflowing (outcomes_of l)) e ∙ fits
+
+-- one outcome that is there
+pub found : (xs : List Out) (x : Out) → member same_outcome x xs ≡ true → overflowing xs ≡ false → (xs ≡ once same_outcome xs (x ∷ [])) × (overflowing xs ≡ false)
+found xs x q fits = (rw q refl, fits)
 
 -- one outcome that is not there yet: too large, one too many, or added
 pub new_large : (xs : List Out) (x : Out) → member same_outcome x xs ≡ false → 64 < cells x.0 → overflowing (once same_outcome xs (x ∷ [])) ≡ true

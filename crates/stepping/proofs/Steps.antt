@@ -1,6 +1,5 @@
 -- What a step gives, however it comes about.
-use Rattle.std.proofs.Common.{◌≡◌, Bool, true, false, ◌&&◌, ◌||◌, List, [], IsErrAnd, Ok, Err, vec_items, Result, Vec, sym, refl, ap, ◌∙◌, subst}
-use Rattle.std.specs.declared.alloc.Global.{Global}
+use Rattle.std.proofs.Common.{◌≡◌, Bool, true, false, ◌&&◌, ◌||◌, List, [], IsErrAnd, Ok, Err, sym, refl, ap, ◌∙◌, subst}
 use Rattle.calculus.specs.Vocabulary.{Meaning, Rule}
 use Rattle.calculus.specs.Graphs.{Graph, graph_of}
 use Rattle.calculus.specs.States.{State}
@@ -9,14 +8,11 @@ use Rattle.calculus.specs.Steps.{Outcome as Out}
 use Rattle.calculus.specs.Fullness.{full, overflowing}
 use Rattle.stepping.specs.declared.fault.StepFault.{StepFault}
 use Rattle.stepping.specs.declared.fault.StepFault.TheVariants.{Memory}
-use Rattle.stepping.specs.declared.outcome.Outcome.{Outcome}
-use Rattle.stepping.specs.Listed.{outcomes_of}
-use Rattle.stepping.specs.Adding.{Says, Gives, Collects}
+use Rattle.stepping.specs.declared.outcomes.Outcomes.{Outcomes}
+use Rattle.stepping.specs.Adding.{Says, Gives, Collects, outcomes_in}
 use Rattle.stepping.specs.Stepping.{Stepped}
 use Rattle.stepping.proofs.Growing.{says_more}
-
-abbrev pub Answer : Type 0
-Answer = Result (Vec Outcome Global) StepFault
+use Rattle.stepping.proofs.Collecting.{Answer, gives_to}
 
 pub or_none : (a b : Bool) → b ≡ false → (a || b) ≡ a
 or_none true b q = refl
@@ -31,10 +27,6 @@ and_off a b q = rw q
 pub and_right : (a b : Bool) → b ≡ false → (a && b) ≡ false
 and_right true b q = q
 and_right false b q = refl
-
-pub gives_to : {xs ys : List Out} {a b : Bool} (r : Answer) → xs ≡ ys → a ≡ b → Gives xs a r → Gives ys b r
-gives_to (Ok v) p q h = (h.0 ∙ p, sym q ∙ h.1)
-gives_to (Err f) p q h = subst (λ (b : Bool). Says b f) q h
 
 module _ (rule : Rule) (e : Meaning) where
   abbrev pub G : Graph
@@ -57,9 +49,9 @@ module _ (rule : Rule) (e : Meaning) where
   by_list t ws r p q h = is_stepped t r (gives_to r p (ap overflowing p ∙ q) h)
 
   -- there are none
-  pub none_stepped : (t : State) (v : Vec Outcome Global) → outcomes G e t ≡ [] → overflowing (outcomes G e t) ≡ full G e t → vec_items v ≡ [] →
+  pub none_stepped : (t : State) (v : Outcomes) → outcomes G e t ≡ [] → overflowing (outcomes G e t) ≡ full G e t → outcomes_in v ≡ [] →
       Stepped rule e t (Ok v)
-  none_stepped t v p q i = is_stepped t (Ok v) (ap outcomes_of i ∙ sym p, sym q ∙ ap overflowing p)
+  none_stepped t v p q i = is_stepped t (Ok v) (i ∙ sym p, sym q ∙ ap overflowing p)
 
   -- a fault of a part is a fault of the whole
   pub stops_by : (t u : State) (f : StepFault) (q : Answer) → (full G e u ≡ true → full G e t ≡ true) → Stepped rule e u (Err f) → IsErrAnd q (λ y. y ≡ f) →

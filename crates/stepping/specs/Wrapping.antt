@@ -1,20 +1,12 @@
 -- What comes of one outcome of a part.
 use Rattle.std.specs.Prelude.{ℕ, List, [], ◌∷◌}
-use Rattle.calculus.specs.Vocabulary.{Var, Op, And}
+use Rattle.calculus.specs.Vocabulary.{Var, And}
 use Rattle.calculus.specs.Numbers.{lookup, compatible, union}
 use Rattle.calculus.specs.Graphs.{Graph}
-use Rattle.calculus.specs.States.{State, pair, filter}
+use Rattle.calculus.specs.States.{pair, filter}
 use Rattle.calculus.specs.Lists.{gather}
 use Rattle.calculus.specs.Outcomes.{when, released}
 use Rattle.calculus.specs.Steps.{Outcome}
-
--- the left side has stepped, the right one remains
-abbrev pub outcomes_on_left : Op → State → Outcome → List Outcome
-outcomes_on_left o r x = (pair o x.0 r, x.1) ∷ []
-
--- the right side has stepped, the left one remains
-abbrev pub outcomes_on_right : Op → State → Outcome → List Outcome
-outcomes_on_right o l x = (pair o l x.0, x.1) ∷ []
 
 -- both sides have stepped, where their bindings agree
 abbrev pub with_one : Outcome → Outcome → List Outcome

@@ -7,8 +7,8 @@ ghost use Rattle.stepping.specs.Holding.{Follows};
 ghost use Rattle.stepping.specs.Listed.{states as states_of};
 
 use crate::fault::StepFault;
-use crate::holding::hold_all;
-use crate::step::step_part;
+use crate::holding::Held;
+use crate::step::Step;
 use checking::rule::Rule;
 use events::meaning::Meaning;
 use states::ending::may_end;
@@ -20,21 +20,14 @@ use std::alloc::{AllocError, Global};
 pub fn first(heap: Global) -> Result<Vec<Tree>, AllocError>
     ensures { IfOk result (λ held. states_of held.items ≡ start ∷ []) }
 {
-    let mut held = Vec::new(heap);
-    held.push(Tree::Leaf(0, NO_NUMBERS))?;
-    Ok(held)
+    Ok(vec![in heap; Tree::Leaf(0, NO_NUMBERS)]?)
 }
 
 // Whether one of the held states may end.
 pub fn any_ends(rule: &Rule, held: &[Tree]) -> bool
     ensures { result ≡ any_ends (graph_of rule.now) (states_of held.now) }
 {
-    for t in held {
-        if may_end(rule, t) {
-            return true;
-        }
-    }
-    false
+    held.iter().any(|t| may_end(rule, t))
 }
 
 // The states to hold after an event: each that a held state steps to, once.
@@ -46,10 +39,11 @@ pub fn after(
 ) -> Result<Vec<Tree>, StepFault>
     ensures { Follows (graph_of rule.now) event.now (states_of held.now) result }
 {
-    let mut next = Vec::new(heap);
+    let step = Step { heap, rule, event };
+    let mut next = Held::new(heap);
     for t in held {
-        let outcomes = step_part(heap, rule, event, t)?;
-        hold_all(&mut next, outcomes)?;
+        let outcomes = step.part(t)?;
+        next.hold_all(outcomes)?;
     }
-    Ok(next)
+    Ok(next.states)
 }

@@ -1,53 +1,58 @@
-// Adding states to the held ones, each once.
+// The states to hold, each once.
 ghost use Rattle.std.specs.Prelude.{◌≡◌, false, List, [], ◌∷◌};
-ghost use Rattle.calculus.specs.Equality.{same_state};
-ghost use Rattle.calculus.specs.Lists.{member, gather};
+ghost use Rattle.calculus.specs.Lists.{gather};
 ghost use Rattle.states.specs.State.{state};
+ghost use Rattle.stepping.specs.Adding.{outcomes_in};
 ghost use Rattle.stepping.specs.Holding.{AddsStates, state_of, too_many};
-ghost use Rattle.stepping.specs.Listed.{outcomes_of, states as states_of};
+ghost use Rattle.stepping.specs.Listed.{states as states_of};
 
 use crate::fault::StepFault;
 use crate::outcome::Outcome;
-use states::equality::same;
+use crate::outcomes::Outcomes;
 use states::tree::Tree;
+use std::alloc::Global;
 
 // The most states that are held.
 const MOST_HELD: usize = 16;
 
-fn contains(held: &[Tree], t: &Tree) -> bool
-    ensures { result ≡ member same_state (state t.now) (states_of held.now) }
-{
-    for u in held {
-        if same(u, t) {
-            return true;
+// States to hold, not too many.
+#[derive(Drop)]
+pub(crate) struct Held {
+    pub(crate) states: Vec<Tree>,
+    ghost few: { too_many (states_of states.items) ≡ false },
+}
+
+impl Held {
+    pub(crate) fn new(heap: Global) -> Held
+        ensures { states_of result.states.items ≡ [] }
+    {
+        Held {
+            states: Vec::new(heap),
         }
     }
-    false
-}
 
-// Holds a state, unless it is held.
-fn hold(held: &mut Vec<Tree>, t: Tree) -> Result<(), StepFault>
-    requires { too_many (states_of held.old.items) ≡ false }
-    ensures { AddsStates (states_of held.old.items) (state t ∷ []) (states_of held.new.items) result }
-{
-    if contains(held, &t) {
-        return Ok(());
+    // Holds a state, unless it is held.
+    fn hold(&mut self, t: Tree) -> Result<(), StepFault>
+        ensures { AddsStates (states_of self.old.states.items) (state t ∷ []) (states_of self.new.states.items) result }
+    {
+        if self.states.contains(&t) {
+            return Ok(());
+        }
+        if self.states.len() >= MOST_HELD {
+            return Err(StepFault::Full);
+        }
+        self.states.push(t)?;
+        Ok(())
     }
-    if held.len() >= MOST_HELD {
-        return Err(StepFault::Full);
-    }
-    held.push(t)?;
-    Ok(())
-}
 
-// Holds the states of outcomes, without their bindings, since no binder stands above a whole state.
-pub(crate) fn hold_all(held: &mut Vec<Tree>, outcomes: Vec<Outcome>) -> Result<(), StepFault>
-    requires { too_many (states_of held.old.items) ≡ false }
-    ensures { AddsStates (states_of held.old.items) (gather state_of (outcomes_of outcomes.items)) (states_of held.new.items) result }
-{
-    for o in outcomes {
-        let Outcome { tree, binding: _ } = o;
-        hold(held, tree)?;
+    // Holds the states of outcomes, without their bindings, since no binder stands above a whole state.
+    pub(crate) fn hold_all(&mut self, outcomes: Outcomes) -> Result<(), StepFault>
+        ensures { AddsStates (states_of self.old.states.items) (gather state_of (outcomes_in outcomes)) (states_of self.new.states.items) result }
+    {
+        for o in outcomes.items {
+            let Outcome { tree, binding: _ } = o;
+            self.hold(tree)?;
+        }
+        Ok(())
     }
-    Ok(())
 }

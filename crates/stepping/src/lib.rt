@@ -7,5 +7,5 @@ pub mod held;
 mod holding;
 mod joining;
 mod outcome;
+mod outcomes;
 mod step;
-mod wrapping;

@@ -1,61 +1,86 @@
-// Lists of outcomes, each once.
-ghost use Rattle.std.specs.Prelude.{◌≡◌, false, List, [], ◌∷◌, Decides};
-ghost use Rattle.calculus.specs.Equality.{same_outcome};
-ghost use Rattle.calculus.specs.Lists.{member};
-ghost use Rattle.calculus.specs.Fullness.{overflowing};
-ghost use Rattle.stepping.specs.Listed.{outcome_of, outcomes_of};
-ghost use Rattle.stepping.specs.Adding.{AddsOutcomes};
+// One outcome of a part, and what becomes of it in what the part stands in. The outcome moves into its box; only the side that
+// remains is copied.
+ghost use Rattle.std.specs.Prelude.{◌≡◌, IfOk};
+ghost use Rattle.calculus.specs.Graphs.{graph_of};
+ghost use Rattle.calculus.specs.Numbers.{lookup as lookup_of, union as union_of};
+ghost use Rattle.calculus.specs.Outcomes.{released as released_of};
+ghost use Rattle.calculus.specs.States.{pair as pair_of, filter as filter_of};
+ghost use Rattle.states.specs.State.{state};
+ghost use Rattle.stepping.specs.Listed.{outcome_of};
 
-use crate::fault::StepFault;
+use checking::rule::Rule;
+use rules::node::{Op, Var};
 use rules::substitution::Substitution;
-use states::equality::same;
-use states::size::remaining;
+use states::settling::settle;
+use states::substitution::{lookup, union, without};
 use states::tree::Tree;
-
-// The most outcomes of a part.
-const MOST_OUTCOMES: usize = 16;
-
-// The most cells of a state.
-const MOST_CELLS: usize = 64;
+use std::alloc::{AllocError, Global};
 
 // A state, and the numbers that the event gave to variables.
-#[derive(Drop)]
+#[derive(PartialEq, Drop)]
 pub(crate) struct Outcome {
     pub(crate) tree: Tree,
     pub(crate) binding: Substitution,
 }
 
-fn same_outcome(a: &Outcome, b: &Outcome) -> bool
-    ensures { Decides result (outcome_of a.now ≡ outcome_of b.now) }
-{
-    same(&a.tree, &b.tree) && a.binding == b.binding
-}
+impl Outcome {
+    // The left side has stepped, and the right one remains.
+    pub(crate) fn on_left(self, heap: Global, op: Op, right: &Tree) -> Result<Outcome, AllocError>
+        ensures { IfOk result (λ o. outcome_of o ≡ (pair_of op (state self.tree) (state right.now), self.binding)) }
+    {
+        let Outcome { tree, binding } = self;
+        let tree = Tree::pair(heap, op, tree, right.clone()?)?;
+        Ok(Outcome { tree, binding })
+    }
 
-fn contains(outcomes: &[Outcome], o: &Outcome) -> bool
-    ensures { result ≡ member same_outcome (outcome_of o.now) (outcomes_of outcomes.now) }
-{
-    for p in outcomes {
-        if same_outcome(p, o) {
-            return true;
+    // The right side has stepped, and the left one remains.
+    pub(crate) fn on_right(self, heap: Global, op: Op, left: &Tree) -> Result<Outcome, AllocError>
+        ensures { IfOk result (λ o. outcome_of o ≡ (pair_of op (state left.now) (state self.tree), self.binding)) }
+    {
+        let Outcome { tree, binding } = self;
+        let tree = Tree::pair(heap, op, left.clone()?, tree)?;
+        Ok(Outcome { tree, binding })
+    }
+
+    // Both sides have stepped. Each outcome may meet several of the other side, so both are copied.
+    pub(crate) fn together(&self, heap: Global, right: &Outcome) -> Result<Outcome, AllocError>
+        ensures { IfOk result (λ o. outcome_of o ≡ (pair_of Op.And (state self.now.tree) (state right.now.tree), union_of self.now.binding right.now.binding)) }
+    {
+        let tree = Tree::pair(heap, Op::And, self.tree.clone()?, right.tree.clone()?)?;
+        Ok(Outcome {
+            tree,
+            binding: union(self.binding, right.binding),
+        })
+    }
+
+    // Below a binder state: the variable is settled where it is bound; otherwise the binder state remains.
+    pub(crate) fn released(self, heap: Global, rule: &Rule, v: Var) -> Result<Outcome, AllocError>
+        ensures { IfOk result (λ o. outcome_of o ≡ released_of (graph_of rule.now) v (lookup_of self.binding v) (outcome_of self)) }
+    {
+        let Outcome { mut tree, binding } = self;
+        match lookup(binding, v) {
+            Some(k) => {
+                settle(rule, &mut tree, v, k);
+                Ok(Outcome {
+                    tree,
+                    binding: without(binding, v),
+                })
+            }
+            None => Ok(Outcome {
+                tree: Tree::binder(heap, v, tree)?,
+                binding,
+            }),
         }
     }
-    false
-}
 
-// Adds an outcome, unless it is there.
-pub(crate) fn add(outcomes: &mut Vec<Outcome>, o: Outcome) -> Result<(), StepFault>
-    requires { overflowing (outcomes_of outcomes.old.items) ≡ false }
-    ensures { AddsOutcomes (outcomes_of outcomes.old.items) (outcome_of o ∷ []) (outcomes_of outcomes.new.items) result }
-{
-    if contains(outcomes, &o) {
-        return Ok(());
+    // Below a filter state, which remains.
+    pub(crate) fn filtered(self, heap: Global, n: u8) -> Result<Outcome, AllocError>
+        ensures { IfOk result (λ o. outcome_of o ≡ (filter_of n (state self.tree), self.binding)) }
+    {
+        let Outcome { tree, binding } = self;
+        Ok(Outcome {
+            tree: Tree::filter(heap, n, tree)?,
+            binding,
+        })
     }
-    let Some(_) = remaining(&o.tree, MOST_CELLS) else {
-        return Err(StepFault::Full);
-    };
-    if outcomes.len() >= MOST_OUTCOMES {
-        return Err(StepFault::Full);
-    }
-    outcomes.push(o)?;
-    Ok(())
 }

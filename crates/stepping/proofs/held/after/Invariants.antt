@@ -5,4 +5,4 @@ use Rattle.stepping.proofs.Next.{Passed}
 use Rattle.stepping.proofs.held.after.Given as goal
 
 abbrev pub invariant-loop-t : goal.invariant-loop-t
-invariant-loop-t l = Passed (graph_of l.rule) l.event l.held l.t-index (states (vec_items l.next))
+invariant-loop-t l = Passed (graph_of l.rule) l.event l.held l.t-index (states (vec_items l.next.states))
