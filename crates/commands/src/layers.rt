@@ -2,7 +2,6 @@
 ghost use Rattle.std.specs.Prelude.{◌≡◌};
 ghost use Rattle.commands.specs.Layers.{layer_named, Inverse};
 
-use crate::words::is;
 use refusals::Layer;
 
 const LAYERS: [Layer; 7] = [
@@ -20,10 +19,8 @@ pub fn layer_named(word: &[u8]) -> Option<Layer>
     ensures answer { result ≡ layer_named word.now }
     ensures inverse { Inverse word.now result }
 {
-    for layer in LAYERS {
-        if is(word, layer.name()) {
-            return Some(layer);
-        }
-    }
-    None
+    LAYERS
+        .iter()
+        .find(|layer| word == layer.name().as_bytes())
+        .copied()
 }

@@ -3,6 +3,7 @@
 
 mod arguments;
 pub mod command;
+pub mod fault;
 pub mod hex;
 pub mod layers;
 mod numbers;
