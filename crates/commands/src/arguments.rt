@@ -1,7 +1,9 @@
 // What follows the first word of a command.
 ghost use Rattle.std.specs.Prelude.{◌≡◌, vec_items};
 ghost use Rattle.std.specs.Option.{option_map};
-ghost use Rattle.commands.specs.Commands.{hex_of, span_of, place_of, excerpt_of, sense_of, entry_of};
+ghost use Rattle.refusals.specs.Options.{on};
+ghost use Rattle.commands.specs.Commands.{span_of, place_of, excerpt_of, sense_of, entry_of};
+ghost use Rattle.commands.specs.Hex.{unhexed};
 ghost use Rattle.commands.specs.Read.{IfRead};
 ghost use Rattle.commands.specs.Said.{said_by};
 
@@ -15,11 +17,11 @@ use events::derived::{Entry, FIRST_DERIVED, LAST_DERIVED};
 use refusals::{Layer, Span};
 use std::alloc::Global;
 
-// HEX
-pub(crate) fn hex(heap: Global, words: Words) -> Result<Vec<u8>, TextFault>
-    ensures { IfRead vec_items result (λ o. o ≡ hex_of words.entry) }
+// HEX: the bytes that a word stands for, if there is one.
+pub(crate) fn hex(heap: Global, word: Option<&[u8]>) -> Result<Vec<u8>, TextFault>
+    ensures { IfRead vec_items result (λ o. o ≡ on (option_map (λ x. x.now) word.entry) unhexed) }
 {
-    unhex(heap, words.only().ok_or(TextFault::Malformed)?)
+    unhex(heap, word.ok_or(TextFault::Malformed)?)
 }
 
 // SENSE HEX16
@@ -38,7 +40,7 @@ fn sense(mut words: Words) -> Option<Entry>
 pub(crate) fn entry(mut words: Words) -> Option<Command>
     ensures { option_map said_by result ≡ entry_of words.entry }
 {
-    let ty = number(words.next()?, LAST_DERIVED as u64)? as u8;
+    let ty = number(words.next()?, u64::from(LAST_DERIVED))? as u8;
     if ty < FIRST_DERIVED {
         return None;
     }
@@ -59,7 +61,7 @@ fn span(mut words: Words) -> Option<Span>
 fn place(mut words: Words) -> Option<(u32, Layer, Span)>
     ensures { result ≡ place_of words.entry }
 {
-    let number = number(words.next()?, u32::MAX as u64)? as u32;
+    let number = number(words.next()?, u64::from(u32::MAX))? as u32;
     let layer = layer_named(words.next()?)?;
     Some((number, layer, span(words)?))
 }
@@ -68,8 +70,8 @@ fn place(mut words: Words) -> Option<(u32, Layer, Span)>
 pub(crate) fn excerpt(heap: Global, mut words: Words) -> Result<Command, TextFault>
     ensures { IfRead said_by result (λ o. o ≡ excerpt_of words.entry) }
 {
-    let rule = unhex(heap, words.next().ok_or(TextFault::Malformed)?)?;
-    let log = unhex(heap, words.next().ok_or(TextFault::Malformed)?)?;
+    let rule = hex(heap, words.next())?;
+    let log = hex(heap, words.next())?;
     let (number, layer, span) = place(words).ok_or(TextFault::Malformed)?;
     Ok(Command::Excerpt(Asked {
         rule,

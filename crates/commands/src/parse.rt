@@ -38,7 +38,7 @@ fn bare(heap: Global, rest: Option<&[u8]>) -> Result<Command, TextFault>
     let (word, rest) = cut(rest.ok_or(TextFault::Malformed)?);
     match word {
         b"line" => text(heap, rest).map(Command::BareLine),
-        b"record" => hex(heap, Words::of(rest)).map(Command::BareRecord),
+        b"record" => hex(heap, Words::of(rest).only()).map(Command::BareRecord),
         _ => Err(TextFault::Malformed),
     }
 }
@@ -49,15 +49,15 @@ fn command(heap: Global, form: Usage, rest: Option<&[u8]>) -> Result<Command, Te
 {
     let words = Words::of(rest);
     match form {
-        Usage::Rule => hex(heap, words).map(Command::Rule),
+        Usage::Rule => hex(heap, words.only()).map(Command::Rule),
         Usage::Entry => entry(words).ok_or(TextFault::Malformed),
         Usage::Line => text(heap, rest).map(Command::Line),
-        Usage::Record => hex(heap, words).map(Command::Record),
+        Usage::Record => hex(heap, words.only()).map(Command::Record),
         Usage::Bare => bare(heap, rest),
         Usage::Counts => words.alone(Command::Counts),
         Usage::Verdict => words.alone(Command::Verdict),
         Usage::Held => words.alone(Command::Held),
-        Usage::Judge => hex(heap, words).map(Command::Judge),
+        Usage::Judge => hex(heap, words.only()).map(Command::Judge),
         Usage::Excerpt => excerpt(heap, words),
         Usage::Help => words.alone(Command::Help),
         Usage::Unknown => Err(TextFault::Malformed),
