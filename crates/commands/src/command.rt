@@ -34,7 +34,7 @@ pub enum Command {
 }
 
 // The form that a line should have, by its first word.
-#[derive(Clone, Copy)]
+#[derive(Clone, Copy, Debug, PartialEq, Eq)]
 pub enum Usage {
     Rule,
     Entry,

@@ -1,21 +1,20 @@
 // Why nothing is read.
 ghost use Rattle.std.specs.Prelude.{◌≡◌, alloc_error};
 ghost use Rattle.commands.specs.Read.{fault_in};
-ghost use Rattle.commands.specs.declared.fault.TextFault.TheVariants.{Memory as TextMemory};
-ghost use Rattle.commands.specs.declared.fault.ParseFault.TheVariants.{Memory as LineMemory};
+ghost use Rattle.commands.specs.declared.fault.TextFault.TheVariants.{Memory};
 
 use crate::command::Usage;
 use std::alloc::{AllocError, AllocFailed};
 
 // Why a text is not read: it is not in its form, or memory is wanting.
-#[derive(Clone, Copy)]
+#[derive(Clone, Copy, Debug, PartialEq, Eq)]
 pub enum TextFault {
     Malformed,
     Memory(AllocError),
 }
 
 impl From<AllocError> for TextFault {
-    ghost from_gives = { λ e f. f ≡ TextMemory e };
+    ghost from_gives = { λ e f. f ≡ Memory e };
 
     fn from(error: AllocError) -> TextFault {
         TextFault::Memory(error)
@@ -23,7 +22,7 @@ impl From<AllocError> for TextFault {
 }
 
 impl<T: Drop> From<AllocFailed<T>> for TextFault {
-    ghost from_gives = { λ _ f. f ≡ TextMemory alloc_error };
+    ghost from_gives = { λ _ f. f ≡ Memory alloc_error };
 
     fn from(error: AllocFailed<T>) -> TextFault {
         TextFault::Memory(AllocError::from(error))
@@ -31,7 +30,8 @@ impl<T: Drop> From<AllocFailed<T>> for TextFault {
 }
 
 // Why a line is no command: it is not in the form that its first word asks for, or memory is wanting.
-#[derive(Clone, Copy)]
+// Apart from `TextFault`, since one enum that may tell a form would be no plainer.
+#[derive(Clone, Copy, Debug, PartialEq, Eq)]
 pub enum ParseFault {
     Malformed(Usage),
     Memory(AllocError),

@@ -1,6 +1,5 @@
 // Bytes in hexadecimal digits.
-ghost use Rattle.std.specs.Prelude.{◌≡◌, ◌/◌, ◌%◌, ◌<◌, [], ◌∷◌, ◌++◌, IfOk, Some, vec_items, string_bytes, OnOk};
-ghost use Rattle.std.specs.Option.{option_map};
+ghost use Rattle.std.specs.Prelude.{◌≡◌, IfOk, Some, vec_items, string_bytes};
 ghost use Rattle.commands.specs.Hex.{digit_of, pair_of, pairs_of, unhexed, hex_text, Exactly, set_of};
 ghost use Rattle.commands.specs.Read.{IfRead};
 

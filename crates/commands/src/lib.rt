@@ -8,4 +8,6 @@ pub mod hex;
 pub mod layers;
 mod numbers;
 pub mod parse;
+#[cfg(test)]
+mod tests;
 mod words;
