@@ -1,8 +1,8 @@
 -- Cutting bytes at spaces.
-use Rattle.std.proofs.Common.{◌≡◌, ℕ, ◌+◌, ◌<◌, ◌≤◌, Bool, true, false, cond, eqb, List, [], ◌∷◌, ◌++◌, length, get_or, take, drop, Some, None, Option, sym, refl, ap, ◌∙◌, append_assoc, append-nil, arith}
+use Rattle.std.proofs.Common.{◌≡◌, ℕ, ◌+◌, ◌<◌, ◌≤◌, Bool, true, false, cond, eqb, List, [], ◌∷◌, ◌++◌, length, get_or, take, drop, Some, None, sym, refl, ap, ◌∙◌, append_assoc, append-nil}
 use Rattle.std.proofs.lemmas.List.{at_drop_more, at_drop_all, take_more, take_all}
 use Rattle.std.proofs.lemmas.Bool.{eq-eqb, ne_eqb}
-use Rattle.commands.specs.Words.{before, after, longer, words, words_in, first_of, only_of}
+use Rattle.commands.specs.Words.{before, after, longer, words, words_in}
 
 -- the first word stands before the first space, and the others are cut from what follows it
 pub words_first : (xs : List ℕ) → words xs ≡ before xs ∷ words_in (after xs)
@@ -42,32 +42,3 @@ module _ (xs : List ℕ) (i : ℕ) (p : Passed xs i) where
 
 pub passed_none : (xs : List ℕ) → Passed xs 0
 passed_none xs = record { front = refl; rest = refl }
-
-pub first_cut : (xs w : List ℕ) (o : Option (List ℕ)) → w ≡ before xs → o ≡ after xs → Some (w, words_in o) ≡ first_of (words xs)
-first_cut xs w o p q = rw (p, q, words_first xs)
-
-abbrev pub found : List ℕ → List (List ℕ) → Option (List ℕ × List (List ℕ))
-found w ws = Some (w, ws)
-
-parts : (w v : List ℕ) (ws us : List (List ℕ)) → found w ws ≡ found v us → (w ≡ v) × (ws ≡ us)
-parts w v ws us e = let q : ◌≡◌ {A = List ℕ × List (List ℕ)} (w, ws) (v, us) = cc in (ap (λ p. p.0) q, ap (λ p. p.1) q)
-
--- a word that is the only one, and one that is not
-only_found : (ws : List (List ℕ)) (w : List ℕ) → found w [] ≡ first_of ws → Some w ≡ only_of ws
-only_found [] w e = absurd (let z : ◌≡◌ {A = ℕ} 0 1 = cc in omega arith)
-only_found (v ∷ []) w e = ap Some (parts w v [] [] e).0
-only_found (v ∷ u ∷ ws) w e = let q = (parts w v [] (u ∷ ws) e).1 in absurd (let z : ◌≡◌ {A = ℕ} 0 1 = cc in omega arith)
-
-pub only_one : (ws : List (List ℕ)) (w : List ℕ) (o : Option (List ℕ)) → o ≡ None → found w (words_in o) ≡ first_of ws → Some w ≡ only_of ws
-only_one ws w o q e = only_found ws w (ap (λ p. found w (words_in p)) (sym q) ∙ e)
-
-more_found : (ws : List (List ℕ)) (w xs : List ℕ) → found w (words xs) ≡ first_of ws → None ≡ only_of ws
-more_found [] w xs e = refl
-more_found (v ∷ []) w xs e =
-    let f = words_first xs in
-    let q = (parts w v (words xs) [] e).1 in
-    absurd (let z : ◌≡◌ {A = ℕ} 0 1 = cc in omega arith)
-more_found (v ∷ u ∷ ws) w xs e = refl
-
-pub only_more : (ws : List (List ℕ)) (w xs : List ℕ) (o : Option (List ℕ)) → o ≡ Some xs → found w (words_in o) ≡ first_of ws → None ≡ only_of ws
-only_more ws w xs o q e = more_found ws w xs (ap (λ p. found w (words_in p)) (sym q) ∙ e)

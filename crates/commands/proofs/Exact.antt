@@ -70,9 +70,6 @@ text_only (x ∷ []) bs e = go (eqb x 45) (eqb-true x 45) e
 text_only (x ∷ y ∷ xs) [] e = let p = (pairs_only (x ∷ y ∷ xs) [] e).0 in impossible (cc)
 text_only (x ∷ y ∷ xs) (b ∷ bs) e = pairs_only (x ∷ y ∷ xs) (b ∷ bs) e
 
-pub exactly : (xs : List ℕ) (r : Option (List ℕ)) → r ≡ unhexed xs → Exactly xs r
-exactly xs r q = record { back = λ bs h e. q ∙ text_back xs bs h e; only = λ bs e. text_only xs bs (sym q ∙ e) }
-
 -- what is written is read back
 octets : (bs : List ℕ) → ((i : ℕ) → get_or bs i 0 < 256) → Octets bs
 octets [] h = tt
@@ -91,3 +88,10 @@ text_lower (b ∷ bs) h = digits_lower (b ∷ bs) h
 
 pub written_back : (bs s : List ℕ) → ((i : ℕ) → get_or bs i 0 < 256) → s ≡ hex_text bs → unhexed s ≡ Some bs
 written_back bs s h e = ap unhexed e ∙ text_back (hex_text bs) bs (octets bs h) (text_lower bs (octets bs h))
+
+pub exactly : (xs : List ℕ) (r : Option (List ℕ)) → r ≡ unhexed xs → Exactly xs r
+exactly xs r q = record {
+  back = λ bs h e. q ∙ text_back xs bs h e;
+  only = λ bs e. text_only xs bs (sym q ∙ e);
+  written = λ bs h e. q ∙ text_back xs bs h (ap lowered e ∙ text_lower bs h);
+}

@@ -1,9 +1,11 @@
 -- The forms of the commands.
 use Rattle.std.specs.Prelude.{ℕ, List, [], ◌∷◌, codes}
+use Rattle.std.specs.List.{find}
 use Rattle.std.specs.Option.{unwrap_or}
+use Rattle.std.specs.Str.{bytes_eq}
 use Rattle.commands.specs.declared.command.Usage.{Usage}
 use Rattle.commands.specs.declared.command.Usage.TheVariants.{Rule, Entry, Line, Record, Bare, Counts, Verdict, Held, Judge, Excerpt, Help, Unknown}
-use Rattle.commands.specs.Words.{before, first_named}
+use Rattle.commands.specs.Words.{before}
 
 -- HEX is an even number of hexadecimal digits, or `-` for none; HEX16 is sixteen of them
 abbrev pub form_text : Usage → List ℕ
@@ -29,4 +31,4 @@ form_word u = before (form_text u)
 
 -- the form that begins with a word
 abbrev pub form_of : List ℕ → Usage
-form_of w = unwrap_or (first_named form_word forms w) Unknown
+form_of w = unwrap_or (find (λ u. bytes_eq w (form_word u)) forms) Unknown

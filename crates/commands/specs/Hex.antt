@@ -1,5 +1,6 @@
 -- Bytes in hexadecimal digits.
 use Rattle.std.specs.Prelude.{◌≡◌, ℕ, ◌+◌, ◌-◌, ◌*◌, ◌/◌, ◌%◌, ◌<◌, cond, ◌&&◌, List, [], ◌∷◌, map, length, Some, None, Option, ◌==◌, nat_le, nat_lt}
+use Rattle.std.specs.List.{flat_map}
 use Rattle.std.specs.Option.{option_map}
 use Rattle.events.specs.declared.types.TypeSet.{TypeSet}
 use Rattle.refusals.specs.Options.{on}
@@ -31,9 +32,11 @@ unhexed (x ∷ y ∷ xs) = pairs_of (x ∷ y ∷ xs)
 abbrev pub digit_text : ℕ → ℕ
 digit_text n = cond (nat_lt n 10) (48 + n) (97 + (n - 10))
 
+abbrev pub byte_text : ℕ → List ℕ
+byte_text b = digit_text (b / 16) ∷ digit_text (b % 16) ∷ []
+
 abbrev pub digits_text : List ℕ → List ℕ
-digits_text [] = []
-digits_text (b ∷ bs) = digit_text (b / 16) ∷ digit_text (b % 16) ∷ digits_text bs
+digits_text bs = flat_map byte_text bs
 
 abbrev pub hex_text : List ℕ → List ℕ
 hex_text [] = 45 ∷ []
@@ -50,10 +53,11 @@ lower_case x = cond (nat_le 65 x && nat_le x 70) (x + 32) x
 abbrev pub lowered : List ℕ → List ℕ
 lowered xs = map lower_case xs
 
--- bytes are read of their text, with letters in either case, and of no other text
+-- bytes are read of their text, with letters in either case, and of no other text; so what is written of bytes is read back
 pub record Exactly (xs : List ℕ) (r : Option (List ℕ)) : Type 0 where
   pub back : (bs : List ℕ) → Octets bs → lowered xs ≡ hex_text bs → r ≡ Some bs
   pub only : (bs : List ℕ) → r ≡ Some bs → (lowered xs ≡ hex_text bs) × Octets bs
+  pub written : (bs : List ℕ) → Octets bs → xs ≡ hex_text bs → r ≡ Some bs
 
 -- the number of digits that follow those of n
 abbrev pub number_from : ℕ → List ℕ → Option ℕ

@@ -3,5 +3,6 @@ pub mod Layers
 pub mod Numerals
 pub mod Words
 pub mod Said
+pub mod Read
 pub mod Forms
 pub mod Commands

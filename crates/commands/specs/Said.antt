@@ -1,13 +1,13 @@
 -- What a command says, with lists of numbers for its bytes.
-use Rattle.std.specs.Prelude.{ℕ, List, vec_items}
+use Rattle.std.specs.Prelude.{ℕ, List, Some, None, Ok, Err, Option, Result, vec_items}
 use Rattle.events.specs.declared.derived.Entry.{Entry}
 use Rattle.refusals.specs.declared.Layer.{Layer}
 use Rattle.refusals.specs.declared.Span.{Span}
 use Rattle.commands.specs.declared.command.Command.{Command}
 use Rattle.commands.specs.declared.command.Command.TheVariants.{Rule, Entry as EntryFor, Line, Record, BareLine, BareRecord, Counts, Verdict, Held, Judge, Excerpt, Help}
-use Rattle.commands.specs.declared.command.Parsed.{Parsed}
-use Rattle.commands.specs.declared.command.Parsed.TheVariants.{Nothing, Malformed, Command as Is}
 use Rattle.commands.specs.declared.command.Usage.{Usage}
+use Rattle.commands.specs.declared.fault.ParseFault.{ParseFault}
+use Rattle.commands.specs.declared.fault.ParseFault.TheVariants.{Malformed, Memory}
 
 pub data Said : Type 0 where
   rule : List ℕ → Said
@@ -43,7 +43,9 @@ pub data Told : Type 0 where
   malformed : Usage → Told
   says : Said → Told
 
-abbrev pub told : Parsed → Told
-told Nothing = nothing
-told (Malformed u) = malformed u
-told (Is c) = says (said_by c)
+-- P holds of what a line tells; where memory is wanting it is not known
+abbrev pub IfTold : Result (Option Command) ParseFault → (Told → Type 0) → Type 0
+IfTold (Ok None) P = P nothing
+IfTold (Ok (Some c)) P = P (says (said_by c))
+IfTold (Err (Malformed u)) P = P (malformed u)
+IfTold (Err (Memory e)) P = Unit {0}

@@ -1,6 +1,5 @@
 -- Words: what stands between single spaces.
 use Rattle.std.specs.Prelude.{ℕ, cond, List, [], ◌∷◌, Some, None, Option, ◌==◌}
-use Rattle.std.specs.Str.{bytes_eq}
 
 -- what stands before the first space
 abbrev pub before : List ℕ → List ℕ
@@ -36,8 +35,3 @@ abbrev pub only_of : List (List ℕ) → Option (List ℕ)
 only_of [] = None
 only_of (w ∷ []) = Some w
 only_of (w ∷ v ∷ ws) = None
-
--- the first of some things whose name a word is
-abbrev pub first_named : {X : Type 0} → (X → List ℕ) → List X → List ℕ → Option X
-first_named name [] w = None
-first_named name (x ∷ xs) w = cond (bytes_eq w (name x)) (Some x) (first_named name xs w)

@@ -1,144 +1,83 @@
 // What follows the first word of a command.
-ghost use Rattle.std.specs.Prelude.{◌≡◌, IfOk, vec_items};
-ghost use Rattle.commands.specs.Commands.{hex_of, span_of, place_of, excerpt_of, sense_of, entry_of};
-ghost use Rattle.commands.specs.Said.{said_by};
-ghost use Rattle.commands.specs.Words.{words_in};
+ghost use Rattle.std.specs.Prelude.{◌≡◌, vec_items};
 ghost use Rattle.std.specs.Option.{option_map};
+ghost use Rattle.refusals.specs.Options.{on};
+ghost use Rattle.commands.specs.Commands.{span_of, place_of, excerpt_of, sense_of, entry_of};
+ghost use Rattle.commands.specs.Hex.{unhexed};
+ghost use Rattle.commands.specs.Read.{IfRead};
+ghost use Rattle.commands.specs.Said.{said_by};
 
 use crate::command::{Asked, Command};
+use crate::fault::TextFault;
 use crate::hex::{set, unhex};
 use crate::layers::layer_named;
 use crate::numbers::number;
-use crate::words::{first, is, only};
+use crate::words::Words;
 use events::derived::{Entry, FIRST_DERIVED, LAST_DERIVED};
 use refusals::{Layer, Span};
-use std::alloc::{AllocError, Global};
+use std::alloc::Global;
 
-// HEX
-pub(crate) fn hex(heap: Global, rest: Option<&[u8]>) -> Result<Option<Vec<u8>>, AllocError>
-    ensures { IfOk result (λ o. option_map vec_items o ≡ hex_of (words_in (option_map (λ x. x.now) rest.entry))) }
+// HEX: the bytes that a word stands for, if there is one.
+pub(crate) fn hex(heap: Global, word: Option<&[u8]>) -> Result<Vec<u8>, TextFault>
+    ensures { IfRead vec_items result (λ o. o ≡ on (option_map (λ x. x.now) word.entry) unhexed) }
 {
-    match only(rest) {
-        Some(word) => unhex(heap, word),
-        None => Ok(None),
-    }
+    unhex(heap, word.ok_or(TextFault::Malformed)?)
 }
 
 // SENSE HEX16
-fn sense(rest: Option<&[u8]>) -> Option<Entry>
-    ensures { result ≡ sense_of (words_in (option_map (λ x. x.now) rest.entry)) }
+fn sense(mut words: Words) -> Option<Entry>
+    ensures { result ≡ sense_of words.entry }
 {
-    let Some((word, rest)) = first(rest) else {
-        return None;
-    };
-    if is(word, "absent") {
-        return match rest {
-            None => Some(Entry::Absent),
-            Some(_) => None,
-        };
-    }
-    let Some(digits) = only(rest) else {
-        return None;
-    };
-    let Some(types) = set(digits) else {
-        return None;
-    };
-    if is(word, "some") {
-        Some(Entry::AnyOf(types))
-    } else if is(word, "none") {
-        Some(Entry::NoneOf(types))
-    } else {
-        None
+    match words.next()? {
+        b"absent" => words.alone(Entry::Absent).ok(),
+        b"some" => Some(Entry::AnyOf(set(words.only()?)?)),
+        b"none" => Some(Entry::NoneOf(set(words.only()?)?)),
+        _ => None,
     }
 }
 
 // T SENSE HEX16
-pub(crate) fn entry(rest: Option<&[u8]>) -> Option<Command>
-    ensures { option_map said_by result ≡ entry_of (words_in (option_map (λ x. x.now) rest.entry)) }
+pub(crate) fn entry(mut words: Words) -> Option<Command>
+    ensures { option_map said_by result ≡ entry_of words.entry }
 {
-    let Some((word, rest)) = first(rest) else {
-        return None;
-    };
-    let Some(ty) = number(word, LAST_DERIVED as u64) else {
-        return None;
-    };
-    if ty < FIRST_DERIVED as u64 {
+    let ty = number(words.next()?, u64::from(LAST_DERIVED))? as u8;
+    if ty < FIRST_DERIVED {
         return None;
     }
-    let Some(entry) = sense(rest) else {
-        return None;
-    };
-    Some(Command::Entry(ty as u8, entry))
+    Some(Command::Entry(ty, sense(words)?))
 }
 
 // AT LEN
-fn span(rest: Option<&[u8]>) -> Option<Span>
-    ensures { result ≡ span_of (words_in (option_map (λ x. x.now) rest.entry)) }
+fn span(mut words: Words) -> Option<Span>
+    ensures { result ≡ span_of words.entry }
 {
-    let Some((word, rest)) = first(rest) else {
-        return None;
-    };
-    let Some(at) = number(word, u64::MAX) else {
-        return None;
-    };
-    let Some(word) = only(rest) else {
-        return None;
-    };
-    let Some(len) = number(word, u64::MAX) else {
-        return None;
-    };
     Some(Span {
-        at: at as usize,
-        len: len as usize,
+        at: number(words.next()?, u64::MAX)? as usize,
+        len: number(words.only()?, u64::MAX)? as usize,
     })
 }
 
 // N LAYER AT LEN
-fn place(rest: Option<&[u8]>) -> Option<(u32, Layer, Span)>
-    ensures { result ≡ place_of (words_in (option_map (λ x. x.now) rest.entry)) }
+fn place(mut words: Words) -> Option<(u32, Layer, Span)>
+    ensures { result ≡ place_of words.entry }
 {
-    let Some((word, rest)) = first(rest) else {
-        return None;
-    };
-    let Some(number) = number(word, u32::MAX as u64) else {
-        return None;
-    };
-    let Some((word, rest)) = first(rest) else {
-        return None;
-    };
-    let Some(layer) = layer_named(word) else {
-        return None;
-    };
-    let Some(span) = span(rest) else {
-        return None;
-    };
-    Some((number as u32, layer, span))
+    let number = number(words.next()?, u64::from(u32::MAX))? as u32;
+    let layer = layer_named(words.next()?)?;
+    Some((number, layer, span(words)?))
 }
 
 // HEX HEX N LAYER AT LEN
-pub(crate) fn excerpt(heap: Global, rest: Option<&[u8]>) -> Result<Option<Command>, AllocError>
-    ensures { IfOk result (λ o. option_map said_by o ≡ excerpt_of (words_in (option_map (λ x. x.now) rest.entry))) }
+pub(crate) fn excerpt(heap: Global, mut words: Words) -> Result<Command, TextFault>
+    ensures { IfRead said_by result (λ o. o ≡ excerpt_of words.entry) }
 {
-    let Some((word, rest)) = first(rest) else {
-        return Ok(None);
-    };
-    let Some(rule) = unhex(heap, word)? else {
-        return Ok(None);
-    };
-    let Some((word, rest)) = first(rest) else {
-        return Ok(None);
-    };
-    let Some(log) = unhex(heap, word)? else {
-        return Ok(None);
-    };
-    let Some((number, layer, span)) = place(rest) else {
-        return Ok(None);
-    };
-    Ok(Some(Command::Excerpt(Asked {
+    let rule = hex(heap, words.next())?;
+    let log = hex(heap, words.next())?;
+    let (number, layer, span) = place(words).ok_or(TextFault::Malformed)?;
+    Ok(Command::Excerpt(Asked {
         rule,
         log,
         number,
         layer,
         span,
-    })))
+    }))
 }

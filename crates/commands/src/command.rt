@@ -1,9 +1,11 @@
 // What a line can ask for.
-ghost use Rattle.std.specs.Prelude.{◌≡◌};
-ghost use Rattle.commands.specs.Forms.{form_text};
+ghost use Rattle.std.specs.Prelude.{◌≡◌, Some};
+ghost use Rattle.commands.specs.Forms.{form_text, form_word};
 
+use crate::words::cut;
 use events::derived::Entry;
 use refusals::{Layer, Span};
+use std::fmt;
 
 // A refusal whose bytes are asked for: the rule and the log that it is about, its number, its layer and its place.
 #[derive(Drop)]
@@ -32,7 +34,7 @@ pub enum Command {
 }
 
 // The form that a line should have, by its first word.
-#[derive(Clone, Copy)]
+#[derive(Clone, Copy, Debug, PartialEq, Eq)]
 pub enum Usage {
     Rule,
     Entry,
@@ -64,7 +66,7 @@ pub const FORMS: [Usage; 11] = [
 ];
 
 impl Usage {
-    // The form in words; it begins with the command's first word.
+    // The form in words; it begins with the word of its commands.
     pub fn text(self) -> &'static str
         ensures { result.now ≡ form_text self }
     {
@@ -85,12 +87,19 @@ impl Usage {
             Usage::Unknown => "a command; help lists them",
         }
     }
+
+    // The word that its commands begin with.
+    pub(crate) fn word(self) -> &'static [u8]
+        ensures { result.now ≡ form_word self }
+    {
+        cut(self.text().as_bytes()).0
+    }
 }
 
-// What a line is: nothing to do, no command, or a command.
-#[derive(Drop)]
-pub enum Parsed {
-    Nothing,
-    Malformed(Usage),
-    Command(Command),
+impl fmt::Display for Usage {
+    ghost output = { λ x. Some (form_text x) };
+
+    fn fmt<W: fmt::Write>(&self, f: &mut fmt::Formatter<W>) -> fmt::Result {
+        f.write_str(self.text())
+    }
 }

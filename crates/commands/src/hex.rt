@@ -1,69 +1,52 @@
 // Bytes in hexadecimal digits.
-ghost use Rattle.std.specs.Prelude.{◌≡◌, ◌/◌, ◌%◌, ◌<◌, [], ◌∷◌, ◌++◌, IfOk, Some, vec_items, string_bytes, OnOk};
-ghost use Rattle.commands.specs.Hex.{digit_of, pair_of, pairs_of, unhexed, digit_text, hex_text, Exactly, set_of};
-ghost use Rattle.std.specs.Option.{option_map};
+ghost use Rattle.std.specs.Prelude.{◌≡◌, IfOk, Some, vec_items, string_bytes};
+ghost use Rattle.commands.specs.Hex.{digit_of, pair_of, pairs_of, unhexed, hex_text, Exactly, set_of};
+ghost use Rattle.commands.specs.Read.{IfRead};
 
+use crate::fault::TextFault;
 use events::types::TypeSet;
 use std::alloc::{AllocError, Global};
+use std::fmt;
 
 // What a digit stands for, in either case.
 fn digit(b: u8) -> Option<u8>
     ensures { result ≡ digit_of b }
 {
-    match b {
-        b'0'..=b'9' => Some(b - b'0'),
-        b'a'..=b'f' => Some(b - b'a' + 10),
-        b'A'..=b'F' => Some(b - b'A' + 10),
-        _ => None,
-    }
+    char::from(b).to_digit(16).map(|d| d as u8)
 }
 
 fn pair(high: u8, low: u8) -> Option<u8>
     ensures { result ≡ pair_of high low }
 {
-    let Some(high) = digit(high) else {
-        return None;
-    };
-    let Some(low) = digit(low) else {
-        return None;
-    };
+    let (high, low) = (digit(high)?, digit(low)?);
     Some(high * 16 + low)
 }
 
 // The bytes that pairs of digits stand for.
-fn pairs(heap: Global, text: &[u8]) -> Result<Option<Vec<u8>>, AllocError>
-    ensures { IfOk result (λ o. option_map vec_items o ≡ pairs_of text.now) }
+fn pairs(heap: Global, text: &[u8]) -> Result<Vec<u8>, TextFault>
+    ensures { IfRead vec_items result (λ o. o ≡ pairs_of text.now) }
 {
     let mut bytes = Vec::new(heap);
     let mut left = text;
     while let [high, low, rest @ ..] = left {
-        let Some(b) = pair(*high, *low) else {
-            return Ok(None);
-        };
-        bytes.push(b)?;
+        bytes.push(pair(*high, *low).ok_or(TextFault::Malformed)?)?;
         left = rest;
     }
     if left.is_empty() {
-        Ok(Some(bytes))
+        Ok(bytes)
     } else {
-        Ok(None)
+        Err(TextFault::Malformed)
     }
 }
 
 // The bytes of a text: two digits for each, in either case, and `-` where there are none.
-pub fn unhex(heap: Global, text: &[u8]) -> Result<Option<Vec<u8>>, AllocError>
-    ensures answer { IfOk result (λ o. option_map vec_items o ≡ unhexed text.now) }
-    ensures exact { IfOk result (λ o. Exactly text.now (option_map vec_items o)) }
+pub fn unhex(heap: Global, text: &[u8]) -> Result<Vec<u8>, TextFault>
+    ensures answer { IfRead vec_items result (λ o. o ≡ unhexed text.now) }
+    ensures exact { IfRead vec_items result (Exactly text.now) }
 {
     match text {
-        [] => Ok(None),
-        [b] => {
-            if *b == b'-' {
-                Ok(Some(Vec::new(heap)))
-            } else {
-                Ok(None)
-            }
-        }
+        [] => Err(TextFault::Malformed),
+        [b'-'] => Ok(Vec::new(heap)),
         _ => pairs(heap, text),
     }
 }
@@ -77,44 +60,33 @@ pub(crate) fn set(text: &[u8]) -> Option<TypeSet>
     }
     let mut bits: u64 = 0;
     for b in text {
-        let Some(d) = digit(*b) else {
-            return None;
-        };
-        bits = bits * 16 + d as u64;
+        bits = bits * 16 + u64::from(digit(*b)?);
     }
     Some(TypeSet { bits })
 }
 
-fn digit_text(n: u8) -> char
-    requires { n < 16 }
-    ensures { result ≡ digit_text n }
-{
-    if n < 10 {
-        (b'0' + n) as char
-    } else {
-        (b'a' + (n - 10)) as char
+// Bytes, written as two digits for each, in lower case, and as `-` where there are none.
+#[derive(Clone, Copy)]
+pub struct Hex<'a>(pub &'a [u8]);
+
+impl<'a> fmt::Display for Hex<'a> {
+    ghost output = { λ x. Some (hex_text x.0.now) };
+
+    fn fmt<W: fmt::Write>(&self, f: &mut fmt::Formatter<W>) -> fmt::Result {
+        if self.0.is_empty() {
+            return f.write_str("-");
+        }
+        for &b in self.0 {
+            write!(f, "{b:02x}")?;
+        }
+        Ok(())
     }
 }
 
-fn push_digits(text: &mut String, b: u8) -> Result<(), AllocError>
-    ensures { OnOk result (string_bytes text.new ≡ string_bytes text.old ++ (digit_text (b / 16) ∷ digit_text (b % 16) ∷ [])) }
-{
-    text.push(digit_text(b / 16))?;
-    text.push(digit_text(b % 16))?;
-    Ok(())
-}
-
-// The text of bytes: two digits for each, in lower case, and `-` where there are none.
+// The text of bytes.
 pub fn hex_text(heap: Global, bytes: &[u8]) -> Result<String, AllocError>
     ensures text { IfOk result (λ s. string_bytes s ≡ hex_text bytes.now) }
     ensures back { IfOk result (λ s. unhexed (string_bytes s) ≡ Some bytes.now) }
 {
-    if bytes.is_empty() {
-        return String::from_str(heap, "-");
-    }
-    let mut text = String::new(heap);
-    for b in bytes {
-        push_digits(&mut text, *b)?;
-    }
-    Ok(text)
+    Hex(bytes).to_string(heap)
 }

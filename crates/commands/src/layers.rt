@@ -2,7 +2,6 @@
 ghost use Rattle.std.specs.Prelude.{◌≡◌};
 ghost use Rattle.commands.specs.Layers.{layer_named, Inverse};
 
-use crate::words::is;
 use refusals::Layer;
 
 const LAYERS: [Layer; 7] = [
@@ -15,15 +14,13 @@ const LAYERS: [Layer; 7] = [
     Layer::Report,
 ];
 
-// The layer that a word names.
+// The layer that a word names; a function, since `TryFrom` and `Layer` are both of other crates.
 pub fn layer_named(word: &[u8]) -> Option<Layer>
     ensures answer { result ≡ layer_named word.now }
     ensures inverse { Inverse word.now result }
 {
-    for layer in LAYERS {
-        if is(word, layer.name()) {
-            return Some(layer);
-        }
-    }
-    None
+    LAYERS
+        .iter()
+        .find(|layer| word == layer.name().as_bytes())
+        .copied()
 }

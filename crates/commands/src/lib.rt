@@ -3,8 +3,11 @@
 
 mod arguments;
 pub mod command;
+pub mod fault;
 pub mod hex;
 pub mod layers;
 mod numbers;
 pub mod parse;
+#[cfg(test)]
+mod tests;
 mod words;

@@ -1,115 +1,79 @@
 // Lines, read into commands.
-ghost use Rattle.std.specs.Prelude.{◌≡◌, IfOk, Some, None};
-ghost use Rattle.commands.specs.Commands.{bare_of, said_in, parsed_of};
-ghost use Rattle.commands.specs.Forms.{form_word, form_of};
-ghost use Rattle.commands.specs.Said.{said_by, told};
+ghost use Rattle.std.specs.Prelude.{◌≡◌, vec_items};
 ghost use Rattle.std.specs.Option.{option_map};
-ghost use Rattle.std.specs.Str.{bytes_eq};
+ghost use Rattle.refusals.specs.Options.{on};
+ghost use Rattle.commands.specs.Commands.{bare_of, said_in, parsed_of};
+ghost use Rattle.commands.specs.Forms.{form_of};
+ghost use Rattle.commands.specs.Read.{IfRead};
+ghost use Rattle.commands.specs.Said.{said_by, IfTold};
 
 use crate::arguments::{entry, excerpt, hex};
-use crate::command::{Command, FORMS, Parsed, Usage};
-use crate::words::{cut, is};
-use std::alloc::{AllocError, Global};
-
-// Does a form begin with this word?
-fn begins_with(form: Usage, word: &[u8]) -> bool
-    ensures { result ≡ bytes_eq word.now (form_word form) }
-{
-    let (first, _) = cut(form.text().as_bytes());
-    word == first
-}
+use crate::command::{Command, FORMS, Usage};
+use crate::fault::{ParseFault, TextFault};
+use crate::words::{Words, cut};
+use std::alloc::Global;
 
 // The form that begins with a word.
-fn form(word: &[u8]) -> Usage
+fn form_of(word: &[u8]) -> Usage
     ensures { result ≡ form_of word.now }
 {
-    for form in FORMS {
-        if begins_with(form, word) {
-            return form;
-        }
-    }
-    Usage::Unknown
+    FORMS
+        .iter()
+        .find(|form| word == form.word())
+        .copied()
+        .unwrap_or(Usage::Unknown)
 }
 
-// A command that nothing follows.
-fn alone(form: Usage) -> Option<Command>
-    ensures { option_map said_by result ≡ said_in form None }
+// TEXT: all that follows a space.
+fn text(heap: Global, rest: Option<&[u8]>) -> Result<Vec<u8>, TextFault>
+    ensures { IfRead vec_items result (λ o. o ≡ option_map (λ x. x.now) rest.entry) }
 {
-    match form {
-        Usage::Counts => Some(Command::Counts),
-        Usage::Verdict => Some(Command::Verdict),
-        Usage::Held => Some(Command::Held),
-        Usage::Help => Some(Command::Help),
-        _ => None,
-    }
+    Ok(Vec::from_slice(heap, rest.ok_or(TextFault::Malformed)?)?)
 }
 
 // `bare`, and then `line TEXT` or `record HEX`.
-fn bare(heap: Global, bytes: &[u8]) -> Result<Option<Command>, AllocError>
-    ensures { IfOk result (λ o. option_map said_by o ≡ bare_of bytes.now) }
+fn bare(heap: Global, rest: Option<&[u8]>) -> Result<Command, TextFault>
+    ensures { IfRead said_by result (λ o. o ≡ on (option_map (λ x. x.now) rest.entry) bare_of) }
 {
-    let (word, rest) = cut(bytes);
-    if is(word, "line") {
-        let Some(line) = rest else {
-            return Ok(None);
-        };
-        Ok(Some(Command::BareLine(Vec::from_slice(heap, line)?)))
-    } else if is(word, "record") {
-        let Some(record) = hex(heap, rest)? else {
-            return Ok(None);
-        };
-        Ok(Some(Command::BareRecord(record)))
-    } else {
-        Ok(None)
-    }
-}
-
-// A command that bytes follow, after a space.
-fn followed(heap: Global, form: Usage, bytes: &[u8]) -> Result<Option<Command>, AllocError>
-    ensures { IfOk result (λ o. option_map said_by o ≡ said_in form (Some bytes.now)) }
-{
-    match form {
-        Usage::Rule => match hex(heap, Some(bytes))? {
-            Some(rule) => Ok(Some(Command::Rule(rule))),
-            None => Ok(None),
-        },
-        Usage::Entry => Ok(entry(Some(bytes))),
-        Usage::Line => Ok(Some(Command::Line(Vec::from_slice(heap, bytes)?))),
-        Usage::Record => match hex(heap, Some(bytes))? {
-            Some(record) => Ok(Some(Command::Record(record))),
-            None => Ok(None),
-        },
-        Usage::Bare => bare(heap, bytes),
-        Usage::Judge => match hex(heap, Some(bytes))? {
-            Some(judged) => Ok(Some(Command::Judge(judged))),
-            None => Ok(None),
-        },
-        Usage::Excerpt => excerpt(heap, Some(bytes)),
-        _ => Ok(None),
+    let (word, rest) = cut(rest.ok_or(TextFault::Malformed)?);
+    match word {
+        b"line" => text(heap, rest).map(Command::BareLine),
+        b"record" => hex(heap, Words::of(rest).only()).map(Command::BareRecord),
+        _ => Err(TextFault::Malformed),
     }
 }
 
 // A command of a form, by what follows its first word.
-fn command(heap: Global, form: Usage, rest: Option<&[u8]>) -> Result<Option<Command>, AllocError>
-    ensures { IfOk result (λ o. option_map said_by o ≡ said_in form (option_map (λ x. x.now) rest.entry)) }
+fn command(heap: Global, form: Usage, rest: Option<&[u8]>) -> Result<Command, TextFault>
+    ensures { IfRead said_by result (λ o. o ≡ said_in form (option_map (λ x. x.now) rest.entry)) }
 {
-    match rest {
-        Some(bytes) => followed(heap, form, bytes),
-        None => Ok(alone(form)),
+    let words = Words::of(rest);
+    match form {
+        Usage::Rule => hex(heap, words.only()).map(Command::Rule),
+        Usage::Entry => entry(words).ok_or(TextFault::Malformed),
+        Usage::Line => text(heap, rest).map(Command::Line),
+        Usage::Record => hex(heap, words.only()).map(Command::Record),
+        Usage::Bare => bare(heap, rest),
+        Usage::Counts => words.alone(Command::Counts),
+        Usage::Verdict => words.alone(Command::Verdict),
+        Usage::Held => words.alone(Command::Held),
+        Usage::Judge => hex(heap, words.only()).map(Command::Judge),
+        Usage::Excerpt => excerpt(heap, words),
+        Usage::Help => words.alone(Command::Help),
+        Usage::Unknown => Err(TextFault::Malformed),
     }
 }
 
-// What one line tells, without the byte that ends it.
-pub fn parse(heap: Global, line: &[u8]) -> Result<Parsed, AllocError>
-    ensures { IfOk result (λ p. told p ≡ parsed_of line.now) }
+// What one line asks for, without the byte that ends it; nothing where it is empty or begins with `#`.
+pub fn parse(heap: Global, line: &[u8]) -> Result<Option<Command>, ParseFault>
+    ensures { IfTold result (λ t. t ≡ parsed_of line.now) }
 {
-    if line.is_empty() || line[0] == b'#' {
-        return Ok(Parsed::Nothing);
+    if let [] | [b'#', ..] = line {
+        return Ok(None);
     }
     let (word, rest) = cut(line);
-    let form = form(word);
-    match command(heap, form, rest)? {
-        Some(command) => Ok(Parsed::Command(command)),
-        None => Ok(Parsed::Malformed(form)),
-    }
+    let form = form_of(word);
+    command(heap, form, rest)
+        .map(Some)
+        .map_err(|fault| fault.in_form(form))
 }

@@ -1,17 +1,15 @@
 // Words: what stands between single spaces.
-ghost use Rattle.std.specs.Prelude.{◌≡◌};
-ghost use Rattle.commands.specs.Words.{before, after, words_in, first_of, only_of};
+ghost use Rattle.std.specs.Prelude.{◌≡◌, ok_or, List, ℕ};
+ghost use Rattle.std.specs.Iterator.{YieldsFirstRef, item_count};
 ghost use Rattle.std.specs.Option.{option_map};
-ghost use Rattle.std.specs.Str.{bytes_eq};
+ghost use Rattle.commands.specs.Commands.{alone};
+ghost use Rattle.commands.specs.Words.{before, after, words_in, only_of};
+ghost use Rattle.commands.specs.declared.fault.TextFault.TheVariants.{Malformed};
 
-const SPACE: u8 = 32;
+use crate::fault::TextFault;
+use std::marker::Model;
 
-// Is a word this text?
-pub(crate) fn is(word: &[u8], text: &str) -> bool
-    ensures { result ≡ bytes_eq word.now text.now }
-{
-    word == text.as_bytes()
-}
+const SPACE: u8 = b' ';
 
 // What stands before the first space, and what follows it, if there is one.
 pub(crate) fn cut(bytes: &[u8]) -> (&[u8], Option<&[u8]>)
@@ -26,25 +24,56 @@ pub(crate) fn cut(bytes: &[u8]) -> (&[u8], Option<&[u8]>)
     (bytes, None)
 }
 
-// The first word of what follows a space, and what follows that word.
-pub(crate) fn first(rest: Option<&[u8]>) -> Option<(&[u8], Option<&[u8]>)>
-    ensures { option_map (λ p. (p.0.now, words_in (option_map (λ x. x.now) p.1))) result ≡ first_of (words_in (option_map (λ x. x.now) rest.entry)) }
-{
-    match rest {
-        Some(bytes) => Some(cut(bytes)),
-        None => None,
+// The words that are still to be read.
+#[derive(Drop)]
+pub(crate) struct Words<'a> {
+    // What they are cut from, if one is left.
+    rest: Option<&'a [u8]>,
+}
+
+impl<'a> Model for Words<'a> {
+    ghost Value = { List (List ℕ) };
+
+    ghost view = { λ x. words_in (option_map (λ b. b.now) x.rest) };
+}
+
+impl<'a> Words<'a> {
+    // The words of what follows a space, if there is one.
+    pub fn of(rest: Option<&'a [u8]>) -> Words<'a>
+        ensures { result ≡ words_in (option_map (λ b. b.now) rest.entry) }
+    {
+        Words { rest }
+    }
+
+    // The word that is left, if no other is.
+    pub fn only(mut self) -> Option<&'a [u8]>
+        ensures { option_map (λ b. b.now) result ≡ only_of self.entry }
+    {
+        let word = self.next()?;
+        self.next().is_none().then_some(word)
+    }
+
+    // What no word may follow.
+    pub fn alone<T: Drop>(mut self, value: T) -> Result<T, TextFault>
+        ensures { result ≡ ok_or (alone self.entry value) Malformed }
+    {
+        match self.next() {
+            Some(_) => Err(TextFault::Malformed),
+            None => Ok(value),
+        }
     }
 }
 
-// The word that follows a space, if no other does.
-pub(crate) fn only(rest: Option<&[u8]>) -> Option<&[u8]>
-    ensures { option_map (λ x. x.now) result ≡ only_of (words_in (option_map (λ x. x.now) rest.entry)) }
-{
-    let Some((word, more)) = first(rest) else {
-        return None;
-    };
-    match more {
-        None => Some(word),
-        Some(_) => None,
+impl<'a> Iterator for Words<'a> {
+    type Item = &'a [u8];
+
+    ghost next_gives = { YieldsFirstRef (λ x. x) };
+
+    ghost remaining = { item_count (λ x. x) };
+
+    fn next(&mut self) -> Option<&'a [u8]> {
+        let (word, rest) = cut(self.rest?);
+        self.rest = rest;
+        Some(word)
     }
 }

@@ -21,7 +21,9 @@ use Rattle.loading.specs.Refusals.{refusal_of as rule_refusal}
 use Rattle.loading.specs.Loading.{Loads}
 use Rattle.commands.specs.declared.command.Command.{Command}
 use Rattle.commands.specs.declared.command.Usage.{Usage}
-use Rattle.commands.specs.Said.{Said, said_by, Told as LineTold, says, malformed, nothing}
+use Rattle.commands.specs.declared.fault.ParseFault.{ParseFault}
+use Rattle.commands.specs.declared.fault.ParseFault.TheVariants.{Malformed}
+use Rattle.commands.specs.Said.{Said, said_by, Told as LineTold, says, malformed, nothing, IfTold}
 use Rattle.replies.specs.declared.reply.Reply.{Reply}
 use Rattle.replies.specs.Told.{Told, told_by, a_rule, shown, refused, expected}
 use Rattle.interpreter.specs.declared.Interpreter.{Interpreter}
@@ -61,11 +63,19 @@ module _ (i : Interpreter) where
   pub done_so : (k : Interpreter) (s t : Said) (r : Result Reply AllocError) → s ≡ t → MatchResult r (λ y. Does i s k (told_by y)) (λ z. k ≡ i) → MatchResult r (λ y. Does i t k (told_by y)) (λ z. k ≡ i)
   done_so k s t r e h = subst (λ (x : Said). MatchResult r (λ y. Does i x k (told_by y)) (λ z. k ≡ i)) e h
 
-  pub nothing_said : (l : LineTold) → nothing ≡ l → Answers i l i None
-  nothing_said l e = subst (λ (x : LineTold). Answers i x i None) e passed_over
+  -- what is answered to what a line tells
+  module _ (l : LineTold) where
+    pub nothing_said : (o : Option Command) → o ≡ None → IfTold (Ok o) (λ t. t ≡ l) → Answers i l i None
+    nothing_said o q h =
+        let e : nothing ≡ l = subst (λ (p : Option Command). IfTold (Ok p) (λ t. t ≡ l)) q h in
+        subst (λ (x : LineTold). Answers i x i None) e passed_over
 
-  pub said_wrong : (l : LineTold) (u : Usage) → malformed u ≡ l → Answers i l i (Some (expected u))
-  said_wrong l u e = subst (λ (x : LineTold). Answers i x i (Some (expected u))) e an_error
+    pub said_wrong : (f : ParseFault) (u : Usage) → f ≡ Malformed u → IfTold (Err f) (λ t. t ≡ l) → Answers i l i (Some (expected u))
+    said_wrong f u q h =
+        let e : malformed u ≡ l = subst (λ (g : ParseFault). IfTold (Err g) (λ t. t ≡ l)) q h in
+        subst (λ (x : LineTold). Answers i x i (Some (expected u))) e an_error
 
-  pub command_done : (k : Interpreter) (l : LineTold) (c : Command) (t : Told) → says (said_by c) ≡ l → Does i (said_by c) k t → Answers i l k (Some t)
-  command_done k l c t e d = subst (λ (x : LineTold). Answers i x k (Some t)) e (a_command d)
+    pub command_done : (k : Interpreter) (o : Option Command) (c : Command) (t : Told) → o ≡ Some c → IfTold (Ok o) (λ t. t ≡ l) → Does i (said_by c) k t → Answers i l k (Some t)
+    command_done k o c t q h d =
+        let e : says (said_by c) ≡ l = subst (λ (p : Option Command). IfTold (Ok p) (λ t. t ≡ l)) q h in
+        subst (λ (x : LineTold). Answers i x k (Some t)) e (a_command d)

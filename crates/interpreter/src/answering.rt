@@ -2,7 +2,7 @@
 ghost use Rattle.std.specs.Prelude.{◌≡◌, IfOk, MatchResult};
 ghost use Rattle.std.specs.Option.{option_map};
 ghost use Rattle.events.specs.Derivation.{derived};
-ghost use Rattle.commands.specs.Said.{said_by, told, Told as LineTold};
+ghost use Rattle.commands.specs.Said.{said_by};
 ghost use Rattle.commands.specs.Commands.{parsed_of};
 ghost use Rattle.replies.specs.Told.{told_by, part};
 ghost use Rattle.interpreter.specs.Answering.{Showing, ShowsLine, ShowsRecord, SetsRule, Judging, Holding, part_of, Does, Answers, Opens};
@@ -11,7 +11,8 @@ use crate::Interpreter;
 use crate::entries::{no_entries, with_entry};
 use crate::sizes::rising_sizes;
 use checking::rule::Rule;
-use commands::command::{Asked, Command, Parsed};
+use commands::command::{Asked, Command};
+use commands::fault::ParseFault;
 use commands::parse::parse;
 use events::derived::Derived;
 use events::event::Event;
@@ -43,18 +44,11 @@ impl Interpreter {
     pub fn answer(&mut self, heap: Global, line: &[u8]) -> Result<Option<Reply>, AllocError>
         ensures { MatchResult result (λ o. Answers self.old (parsed_of line.now) self.new (option_map told_by o)) (λ _. self.new ≡ self.old) }
     {
-        let parsed = parse(heap, line)?;
-        self.reply(heap, &parsed)
-    }
-
-    // The same, where it is known what the line says.
-    fn reply(&mut self, heap: Global, parsed: &Parsed) -> Result<Option<Reply>, AllocError>
-        ensures { (said : LineTold) → told parsed.now ≡ said → MatchResult result (λ o. Answers self.old said self.new (option_map told_by o)) (λ _. self.new ≡ self.old) }
-    {
-        match parsed {
-            Parsed::Nothing => Ok(None),
-            Parsed::Malformed(usage) => Ok(Some(Reply::Expected(*usage))),
-            Parsed::Command(command) => Ok(Some(self.run(heap, command)?)),
+        match parse(heap, line) {
+            Ok(None) => Ok(None),
+            Ok(Some(command)) => Ok(Some(self.run(heap, &command)?)),
+            Err(ParseFault::Malformed(usage)) => Ok(Some(Reply::Expected(usage))),
+            Err(ParseFault::Memory(error)) => Err(error),
         }
     }
 
