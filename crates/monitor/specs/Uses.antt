@@ -5,7 +5,6 @@ use Rattle.calculus.specs.Numbers.{Choice}
 use Rattle.calculus.specs.Matching.{Proper}
 use Rattle.calculus.specs.Graphs.{graph_of}
 use Rattle.calculus.specs.Reading.{whole, beginning, Permits}
-use Rattle.calculus.specs.States.{State}
 use Rattle.calculus.specs.Visited.{Full as Overfull}
 use Rattle.calculus.specs.declared.verdict.Verdict.{Verdict}
 use Rattle.calculus.specs.declared.verdict.Verdict.TheVariants.{Broken, MayEnd, Open}
@@ -24,11 +23,6 @@ most_shown = 1000000
 -- what a monitor holds, with its counts
 abbrev pub run_of : Monitor → Run
 run_of m = record { states = states (vec_items m.held); shown = m.shown; taken = m.taken }
-
--- 1 where there is a state to hold
-abbrev pub gain : List State → ℕ
-gain [] = 0
-gain (t ∷ ts) = 1
 
 abbrev pub counts_of : Monitor → Counts
 counts_of m = record { shown = m.shown; taken = m.taken }
