@@ -1,5 +1,5 @@
 // The report of a play, as text in a buffer that the caller lends.
-ghost use Rattle.std.specs.Prelude.{◌≡◌, ◌≤◌, length};
+ghost use Rattle.std.specs.Prelude.{◌≡◌, ◌≤◌, length, IfOk};
 ghost use Rattle.calculus.specs.Verdicts.{word_of};
 ghost use Rattle.reporting.specs.Text.{over, report_text, report_answer, report_buffer};
 
@@ -28,6 +28,7 @@ pub fn report(
 ) -> Result<usize, ReportFault>
     ensures answer { result ≡ report_answer buffer.old shown taken verdict }
     ensures buffer { buffer.new ≡ report_buffer buffer.old shown taken verdict }
+    ensures fits { IfOk result (λ n. n ≤ ROOM) }
 {
     if buffer.len() < ROOM {
         return Err(ReportFault::ShortBuffer);
@@ -53,9 +54,10 @@ fn line(shown: u32, taken: u32, verdict: Verdict) -> ArrayString<ROOM>
 
 // Writes a line over the front of a buffer, and answers its length.
 fn put(buffer: &mut [u8], line: &ArrayString<ROOM>) -> usize
-    requires { 42 ≤ length buffer.old }
+    requires { ROOM ≤ length buffer.old }
     ensures length { result ≡ length line.now.bytes }
     ensures buffer { buffer.new ≡ over buffer.old line.now.bytes }
+    ensures fits { result ≤ ROOM }
 {
     let text = line.as_str().as_bytes();
     buffer[..text.len()].copy_from_slice(text);
