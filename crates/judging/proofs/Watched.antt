@@ -15,7 +15,7 @@ use Rattle.calculus.specs.Runs.{Run, begin, run}
 use Rattle.monitor.specs.declared.Monitor.{Monitor}
 use Rattle.monitor.specs.declared.fault.ShowFault.{ShowFault}
 use Rattle.monitor.specs.declared.fault.ShowFault.TheVariants.{Limit, Full as TooFull, Memory as NoMemory}
-use Rattle.monitor.specs.Uses.{Call, shows, run_of, Shown, Shows, Made, begun, Use}
+use Rattle.monitor.specs.Uses.{shows, run_of, Shown, Shows, Made, begun, GoesOn}
 use Rattle.monitor.proofs.Kept.{any_use, led, events_more}
 use Rattle.judging.specs.declared.fault.JudgeFault.{JudgeFault}
 use Rattle.judging.specs.declared.fault.JudgeFault.TheVariants.{BadLine}
@@ -59,7 +59,7 @@ module _ (r : Rule) (es : List Meaning) (m : Monitor) (w : Watches r es m) where
 
   module _ (en : Entries) (log : List ℕ) (l : LogLine) where
     further : (n : Monitor) (x : Line) → Ok x ≡ log_line_of l log → Shown (event_of en x) m n
-        → ((cs : List Call) → Use m cs → Use n (cs ++ (shows (event_of en x) (Ok tt) ∷ []))) → Further r en log l es n
+        → GoesOn m (shows (event_of en x) (Ok tt)) n → Further r en log l es n
     further n x q s u = record {
       line = x;
       reads = sym q;
@@ -74,10 +74,10 @@ module _ (r : Rule) (es : List Meaning) (m : Monitor) (w : Watches r es m) where
 
     -- the event that was shown is the line under the entries
     goes_further : (n : Monitor) (x : Line) (d : Derived Line) → Ok x ≡ log_line_of l log → d ≡ record { below = x; entries = en } → Shown (event_in d) m n
-        → ((cs : List Call) → Use m cs → Use n (cs ++ (shows (event_in d) (Ok tt) ∷ []))) → Further r en log l es n
+        → GoesOn m (shows (event_in d) (Ok tt)) n → Further r en log l es n
     goes_further n x d q e s u =
         further n x q (subst (λ (z : Derived Line). Shown (event_in z) m n) e s)
-        (subst (λ (z : Derived Line). (cs : List Call) → Use m cs → Use n (cs ++ (shows (event_in z) (Ok tt) ∷ []))) e u)
+        (subst (λ (z : Derived Line). GoesOn m (shows (event_in z) (Ok tt)) n) e u)
 
     -- the event was not shown
     stops_there : (n : Monitor) (x : Line) (d : Derived Line) (f : ShowFault) (g : JudgeFault) → Ok x ≡ log_line_of l log → d ≡ record { below = x; entries = en }
@@ -91,7 +91,7 @@ module _ (r : Rule) (es : List Meaning) (m : Monitor) (w : Watches r es m) where
 
     -- what showing the event came to
     pub passed : (n : Monitor) (x : Line) (d : Derived Line) (t : Result (Unit {0}) ShowFault) (o : Result (Unit {0}) JudgeFault) → Ok x ≡ log_line_of l log
-        → d ≡ record { below = x; entries = en } → Shows (event_in d) m n t → ((cs : List Call) → Use m cs → Use n (cs ++ (shows (event_in d) t ∷ [])))
+        → d ≡ record { below = x; entries = en } → Shows (event_in d) m n t → GoesOn m (shows (event_in d) t) n
         → MatchResult t (λ u. o ≡ Ok u) (λ f. IsErrAnd o (StopsAt l f)) → Passes r en log l es n o
     passed n x d (Ok u) o q e s h k = subst (Passes r en log l es n) (sym k) (goes_further n x d q e s h)
     passed n x d (Err f) (Ok u) q e s h k = absurd k

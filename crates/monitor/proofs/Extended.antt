@@ -21,10 +21,10 @@ use Rattle.monitor.specs.Faults.{turned}
 use Rattle.monitor.specs.declared.Monitor.{Monitor}
 use Rattle.monitor.specs.declared.fault.ShowFault.{ShowFault}
 use Rattle.monitor.specs.declared.fault.ShowFault.TheVariants.{Limit, Full, Memory}
-use Rattle.monitor.specs.Uses.{Call, shows, run_of, Shown, Shows, is_shown, at_the_limit, is_full, out_of_memory, Made, one_more, Use, asks_verdict, answers_verdict, verdict_of, events_in, Judged}
+use Rattle.monitor.specs.Uses.{Call, shows, run_of, Shown, Shows, is_shown, at_the_limit, is_full, out_of_memory, Made, one_more, Use, GoesOn, asks_verdict, answers_verdict, verdict_of, events_in, Judged}
 
 -- what a show did, as one call more of a use
-pub one_show : (e : Meaning) (m n : Monitor) (r : Result (Unit {0}) ShowFault) → (m.shown < 1000000 → Proper e) → Shows e m n r → (cs : List Call) → Use m cs → Use n (cs ++ (shows e r ∷ []))
+pub one_show : (e : Meaning) (m n : Monitor) (r : Result (Unit {0}) ShowFault) → (m.shown < 1000000 → Proper e) → Shows e m n r → GoesOn m (shows e r) n
 one_show e m n (Ok tt) p s cs u =
     let on : Made m.rule (cs ++ (shows e (Ok tt) ∷ [])) (show (graph_of m.rule) e (run_of m)) = one_more u (is_shown (p s.few) s.few s.room) in
     subst (λ (q : Rule). Made q (cs ++ (shows e (Ok tt) ∷ [])) (run_of n)) (sym s.rule)
@@ -53,12 +53,12 @@ module _ (e : Meaning) (m : Monitor) (few : m.shown < 1000000) where
 
 -- the same of the event whose answers were noted
 pub as_shown : (d e : Meaning) (m n : Monitor) (r : Result (Unit {0}) ShowFault) → d ≡ e → Proper d → Shows d m n r
-    → Shows e m n r × ((cs : List Call) → Use m cs → Use n (cs ++ (shows e r ∷ [])))
+    → Shows e m n r × GoesOn m (shows e r) n
 as_shown d e m n r q p s =
-    subst (λ (x : Meaning). Shows x m n r × ((cs : List Call) → Use m cs → Use n (cs ++ (shows x r ∷ [])))) q (s, one_show d m n r (λ h. p) s)
+    subst (λ (x : Meaning). Shows x m n r × GoesOn m (shows x r) n) q (s, one_show d m n r (λ h. p) s)
 
 -- a verdict that was asked for
-pub asked : (m : Monitor) (v : Verdict) → v ≡ verdict_of m → (cs : List Call) → Use m cs → Use m (cs ++ (asks_verdict v ∷ []))
+pub asked : (m : Monitor) (v : Verdict) → v ≡ verdict_of m → GoesOn m (asks_verdict v) m
 asked m v q cs u = subst (λ (x : Verdict). Use m (cs ++ (asks_verdict x ∷ []))) (sym q) (one_more u answers_verdict)
 
 pub judged : (m : Monitor) (v : Verdict) → v ≡ verdict_of m → (cs : List Call) → Use m cs → Judged m.rule (events_in cs) v

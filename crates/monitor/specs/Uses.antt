@@ -73,6 +73,10 @@ pub data Made (r : Rule) : List Call → Run → Type 0 where
 abbrev pub Use : Monitor → List Call → Type 0
 Use m cs = Made m.rule cs (run_of m)
 
+-- a call that took one monitor to another: every use of the first goes on by it
+abbrev pub GoesOn : Monitor → Call → Monitor → Type 0
+GoesOn m c n = (cs : List Call) → Use m cs → Use n (cs ++ (c ∷ []))
+
 -- the events shown: those of the shows that were not refused, in their order
 abbrev pub events_in : List Call → List Meaning
 events_in [] = []

@@ -1,9 +1,9 @@
 // Beginning a monitor, and showing it events.
-ghost use Rattle.std.specs.Prelude.{◌≡◌, ◌<◌, List, [], ◌∷◌, ◌++◌, IfOk};
-ghost use Rattle.calculus.specs.Matching.{Proper, NarrowSlot};
+ghost use Rattle.std.specs.Prelude.{◌≡◌, ◌<◌, IfOk};
+ghost use Rattle.calculus.specs.Matching.{Proper};
 ghost use Rattle.calculus.specs.Graphs.{graph_of};
 ghost use Rattle.calculus.specs.Runs.{move};
-ghost use Rattle.monitor.specs.Uses.{Call, shows, run_of, Begins, Shows, Use};
+ghost use Rattle.monitor.specs.Uses.{shows, run_of, Begins, Shows, GoesOn};
 ghost use Rattle.stepping.specs.Holding.{Follows};
 ghost use Rattle.stepping.specs.Listed.{states};
 
@@ -36,7 +36,7 @@ impl Monitor {
     // the monitor as it was; at the limit the event is not even queried.
     pub fn show<E: Event>(&mut self, heap: Global, event: &E) -> Result<(), ShowFault>
         ensures shows { Shows (E.meaning event.now) self.old self.new result }
-        ensures uses { (cs : List Call) → Use self.old cs → Use self.new (cs ++ (shows (E.meaning event.now) result ∷ [])) }
+        ensures uses { GoesOn self.old (shows (E.meaning event.now) result) self.new }
     {
         if self.shown >= MOST_SHOWN {
             return Err(ShowFault::Limit);
