@@ -10,6 +10,7 @@ pub mod Visited
 pub mod Equality
 pub mod Outcomes
 pub mod Fullness
+pub mod Verdicts
 pub mod Runs
 pub mod Theorems
 pub mod Plays

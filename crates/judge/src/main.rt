@@ -2,8 +2,8 @@
 // standard error.
 #![tactic(auto)]
 
-use checking::rule::Rule;
-use events::derived::{Entries, Entry};
+use events::derived::Entries;
+use judging::fault::JudgeFault;
 use judging::judge::judge;
 use judging::judgement::Judgement;
 use loading::fault::RuleFault;
@@ -15,11 +15,6 @@ use std::fs;
 use std::io::{Read, Write};
 use std::process::ExitCode;
 
-// Entries that derive no type.
-const NO_ENTRIES: Entries = Entries {
-    list: [Entry::Absent; 16],
-};
-
 // Why the bytes are no rule.
 fn tell_rule(rt: &HostRuntime, bytes: &[u8], fault: &RuleFault) -> anyhow::Result<()> {
     let refusal = fault.refusal();
@@ -27,61 +22,57 @@ fn tell_rule(rt: &HostRuntime, bytes: &[u8], fault: &RuleFault) -> anyhow::Resul
     let message = Message {
         line: 0,
         refusal,
-        cause: fault.cause(),
+        cause: *fault,
         part,
     };
     eprint!(rt; "rule.bin: {message}")?;
     Ok(())
 }
 
-// Prints the report of a judgement, and why it stopped, if it did. Answers whether it did not.
-fn tell(rt: &HostRuntime, rule: &[u8], log: &[u8], judgement: &Judgement) -> anyhow::Result<bool> {
+// The report of a judgement.
+fn tell_report(rt: &HostRuntime, judgement: &Judgement) -> anyhow::Result<()> {
     let mut buffer = [0u8; ROOM];
     let counts = judgement.counts;
-    if let Ok(length) = report(&mut buffer, counts.shown, counts.taken, judgement.verdict) {
-        rt.stdout().write_all(&buffer[0..length.min(ROOM)])?;
-    }
-    let Some(fault) = judgement.fault else {
-        return Ok(true);
-    };
+    let length = report(&mut buffer, counts.shown, counts.taken, judgement.verdict).unwrap();
+    rt.stdout().write_all(&buffer[..length])?;
+    Ok(())
+}
+
+// Why judging stopped before the end of the log.
+fn tell_fault(rt: &HostRuntime, rule: &[u8], log: &[u8], fault: &JudgeFault) -> anyhow::Result<()> {
     let line = fault.line();
     let Some(refusal) = fault.refusal() else {
-        let cause = fault.cause();
-        eprintln!(rt; "line {line}: {cause}")?;
-        return Ok(false);
+        eprintln!(rt; "line {line}: {fault}")?;
+        return Ok(());
     };
     let part = excerpt(rule, log, &refusal);
     let message = Message {
         line,
         refusal,
-        cause: fault.cause(),
+        cause: *fault,
         part,
     };
     eprint!(rt; "{message}")?;
-    Ok(false)
-}
-
-// Answers whether the whole log was judged.
-fn run(rt: &HostRuntime) -> anyhow::Result<bool> {
-    let bytes = fs::read(rt, "rule.bin")?;
-    let rule: Rule = match load(&bytes) {
-        Ok(rule) => rule,
-        Err(fault) => {
-            tell_rule(rt, &bytes, &fault)?;
-            return Ok(false);
-        }
-    };
-    let mut log = Vec::new(rt.alloc());
-    rt.stdin().read_to_end(&mut log)?;
-    let judgement = judge(rt.alloc(), &rule, &NO_ENTRIES, log.as_slice())?;
-    tell(rt, &bytes, log.as_slice(), &judgement)
+    Ok(())
 }
 
 // Ends with status 1 where the rule is refused or the log is faulty; a broken play is no fault.
 fn main(rt: HostRuntime) -> anyhow::Result<ExitCode> {
-    if run(&rt)? {
-        Ok(ExitCode::SUCCESS)
-    } else {
-        Ok(ExitCode::FAILURE)
-    }
+    let bytes = fs::read(&rt, "rule.bin")?;
+    let rule = match load(&bytes) {
+        Ok(rule) => rule,
+        Err(fault) => {
+            tell_rule(&rt, &bytes, &fault)?;
+            return Ok(ExitCode::FAILURE);
+        }
+    };
+    let mut log = Vec::new(rt.alloc());
+    rt.stdin().read_to_end(&mut log)?;
+    let judgement = judge(rt.alloc(), &rule, &Entries::NONE, &log)?;
+    tell_report(&rt, &judgement)?;
+    let Some(fault) = judgement.fault else {
+        return Ok(ExitCode::SUCCESS);
+    };
+    tell_fault(&rt, &bytes, &log, &fault)?;
+    Ok(ExitCode::FAILURE)
 }

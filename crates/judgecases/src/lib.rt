@@ -4,6 +4,7 @@
 #[cfg(test)]
 mod tests {
     use calculus::verdict::Verdict;
+    use calculus::verdict::Verdict::{Broken, MayEnd, Open};
     use checking::rule::Rule;
     use events::derived::{Entries, Entry};
     use events::types::TypeSet;
@@ -12,7 +13,7 @@ mod tests {
     use loading::load;
     use refusals::{Layer, Place, Refusal, Span};
     use reporting::excerpt::excerpt;
-    use reporting::report::{report, verdict_word};
+    use reporting::report::report;
     use std::alloc::Global;
     use std::test::Fail;
 
@@ -28,25 +29,18 @@ mod tests {
     };
 
     fn rule_of(bytes: &[u8]) -> Rule {
-        match load(bytes) {
-            Ok(rule) => rule,
-            Err(_) => Rule::empty(),
-        }
+        load(bytes).unwrap_or(Rule::empty())
     }
 
-    // Both counts, and the first letter of the verdict.
-    type Told = (u32, u32, u8);
+    // Both counts, and the verdict.
+    type Told = (u32, u32, Verdict);
 
     // Number, layer, line, place and length of a fault; 0 for what there is not.
     type Fault = (u8, Layer, usize, usize, usize);
 
     fn told(judgement: &Judgement) -> Told {
         let counts = judgement.counts;
-        let letter = match verdict_word(judgement.verdict).as_bytes() {
-            [first, ..] => *first,
-            [] => 0,
-        };
-        (counts.shown, counts.taken, letter)
+        (counts.shown, counts.taken, judgement.verdict)
     }
 
     fn fault(judgement: &Judgement) -> Option<Fault> {
@@ -67,25 +61,25 @@ mod tests {
     #[test]
     fn plays(rt: HostRuntime) -> Result<(), Fail> {
         let heap = rt.alloc();
-        assert_eq!(rt; cards(heap, b"")?, ((0, 0, b'm'), None), "no line");
+        assert_eq!(rt; cards(heap, b"")?, ((0, 0, MayEnd), None), "no line");
         assert_eq!(rt;
             cards(heap, b"1 c7")?,
-            ((1, 1, b'o'), None),
+            ((1, 1, Open), None),
             "no byte 10 at the end"
         );
         assert_eq!(rt;
             cards(heap, b"1 c7\n2 c7\n3 c7\n4 c7\n")?,
-            ((4, 4, b'm'), None),
+            ((4, 4, MayEnd), None),
             "a card"
         );
         assert_eq!(rt;
             cards(heap, b"1 c7\n1 c9\n2 c9\n2 c7\n3 c7\n4 c9\n")?,
-            ((6, 5, b'b'), None),
+            ((6, 5, Broken), None),
             "published before the cap test"
         );
         assert_eq!(rt;
             cards(heap, b"3 c7\n1 c7\n1 c8")?,
-            ((3, 0, b'b'), None),
+            ((3, 0, Broken), None),
             "goes on after a break"
         );
         Ok(())
@@ -96,22 +90,22 @@ mod tests {
         let heap = rt.alloc();
         assert_eq!(rt;
             cards(heap, b"1 c7\n2 c07\n1 c8\n")?,
-            ((1, 1, b'o'), Some((12, Layer::Word, 2, 7, 3))),
+            ((1, 1, Open), Some((12, Layer::Word, 2, 7, 3))),
             "a bad word"
         );
         assert_eq!(rt;
             cards(heap, b"1 c7\n\n")?,
-            ((1, 1, b'o'), Some((12, Layer::Word, 2, 5, 0))),
+            ((1, 1, Open), Some((12, Layer::Word, 2, 5, 0))),
             "an empty line"
         );
         assert_eq!(rt;
             cards(heap, b"1 c7\n1 c9\n1 s256")?,
-            ((2, 2, b'o'), Some((13, Layer::Word, 3, 12, 4))),
+            ((2, 2, Open), Some((13, Layer::Word, 3, 12, 4))),
             "too large"
         );
         assert_eq!(rt;
             cards(heap, b"3 c7\n1 c7\n48\n")?,
-            ((2, 0, b'b'), Some((13, Layer::Word, 3, 10, 2))),
+            ((2, 0, Broken), Some((13, Layer::Word, 3, 10, 2))),
             "a bad line after a break"
         );
         Ok(())
@@ -121,7 +115,7 @@ mod tests {
     fn entered(heap: Global, cards: u32) -> Result<String, Fail> {
         let mut log = String::new(heap);
         for card in 0..cards {
-            log.push_str(format!(in heap; "1 c{card}\n")?.as_str())?;
+            writeln!(log, "1 c{card}")?;
         }
         Ok(log)
     }
@@ -130,23 +124,23 @@ mod tests {
     fn limits(rt: HostRuntime) -> Result<(), Fail> {
         let heap = rt.alloc();
         let most = entered(heap, 32)?;
-        assert_eq!(rt; cards(heap, most.as_bytes())?, ((32, 32, b'o'), None));
+        assert_eq!(rt; cards(heap, most.as_bytes())?, ((32, 32, Open), None));
         let more = entered(heap, 40)?;
         assert_eq!(rt;
             cards(heap, more.as_bytes())?,
-            ((32, 32, b'o'), Some((32, Layer::Showing, 33, 0, 0))),
+            ((32, 32, Open), Some((32, Layer::Showing, 33, 0, 0))),
             "full at the 33rd card"
         );
         let long = vec![in heap; b'\n'; MOST_BYTES + 1]?;
         assert_eq!(rt;
             cards(heap, long.as_slice())?,
-            ((0, 0, b'm'), Some((14, Layer::Judging, 0, 0, 0))),
+            ((0, 0, MayEnd), Some((14, Layer::Judging, 0, 0, 0))),
             "one byte too long"
         );
         let fits = vec![in heap; b'\n'; MOST_BYTES]?;
         assert_eq!(rt;
             cards(heap, fits.as_slice())?,
-            ((0, 0, b'm'), Some((12, Layer::Word, 1, 0, 0))),
+            ((0, 0, MayEnd), Some((12, Layer::Word, 1, 0, 0))),
             "as long as can be"
         );
         Ok(())
@@ -159,17 +153,17 @@ mod tests {
         let mut entries = NO_ENTRIES;
         assert_eq!(rt;
             told(&judge(heap, &rule, &entries, b"1 c7\n")?),
-            (1, 0, b'b')
+            (1, 0, Broken)
         );
         entries.list[0] = Entry::AnyOf(TypeSet { bits: 6 });
         assert_eq!(rt;
             told(&judge(heap, &rule, &entries, b"1 c7\n")?),
-            (1, 1, b'm')
+            (1, 1, MayEnd)
         );
         entries.list[0] = Entry::NoneOf(TypeSet { bits: 6 });
         assert_eq!(rt;
             told(&judge(heap, &rule, &entries, b"1 c7\n")?),
-            (1, 0, b'b')
+            (1, 0, Broken)
         );
         Ok(())
     }
@@ -220,10 +214,10 @@ mod tests {
     #[test]
     fn reports(rt: HostRuntime) {
         let mut buffer = [b'.'; 44];
-        assert_eq!(rt; report(&mut buffer, 6, 5, Verdict::Broken).ok(), Some(23));
+        assert_eq!(rt; report(&mut buffer, 6, 5, Broken).ok(), Some(23));
         assert_eq!(rt; &buffer[0..25], b"shown 6 taken 5 broken\n..".as_slice());
         assert_eq!(rt;
-            report(&mut buffer, u32::MAX, u32::MAX, Verdict::MayEnd).ok(),
+            report(&mut buffer, u32::MAX, u32::MAX, MayEnd).ok(),
             Some(42)
         );
         assert_eq!(rt;
@@ -231,7 +225,7 @@ mod tests {
             b"shown 4294967295 taken 4294967295 may end\n..".as_slice()
         );
         let mut short = [b'.'; 41];
-        assert!(rt; report(&mut short, 0, 0, Verdict::Open).is_err());
+        assert!(rt; report(&mut short, 0, 0, Open).is_err());
         assert_eq!(rt;
             &short[0..41],
             [b'.'; 41].as_slice(),

@@ -1,5 +1,6 @@
 -- The lines of a log, one after the other, and what is told at the end.
 use Rattle.std.proofs.Common.{◌≡◌, ℕ, ◌+◌, ◌<◌, ◌≤◌, List, [], ◌∷◌, ◌++◌, length, IsErrAnd, Some, None, Ok, Err, Option, Result, sym, subst, arith}
+use Rattle.std.specs.Result.{result_err}
 use Rattle.std.proofs.lemmas.List.{length-append}
 use Rattle.events.specs.declared.derived.Entries.{Entries}
 use Rattle.lines.specs.declared.log.LogLine.{LogLine}
@@ -13,7 +14,7 @@ use Rattle.judging.specs.declared.fault.JudgeFault.{JudgeFault}
 use Rattle.judging.specs.declared.fault.JudgeFault.TheVariants.{TooLong}
 use Rattle.judging.specs.declared.judgement.Judgement.{Judgement}
 use Rattle.judging.specs.Judging.{most_bytes, event_of, Goes, at_the_end, one_more, Stops, too_long, line_by_line, Judges}
-use Rattle.judging.specs.Watching.{Watches, Tells, Passes, Further, fault_in, Went}
+use Rattle.judging.specs.Watching.{Watches, Tells, Passes, Further, Went}
 use Rattle.judging.proofs.Watched.{fresh, on_rule, so_many}
 
 -- a monitor while lines are still to come: what they lead to is what the whole log leads to
@@ -43,25 +44,23 @@ module _ (r : Rule) (en : Entries) (log : List ℕ) (m : Monitor) where
       few = omega (arith, length-append u.es (event_of en f.line ∷ []), u.few);
     }
 
-    pub stopped : (n : Monitor) (o : Result (Unit {0}) JudgeFault) (f : JudgeFault) → Passes r en log l u.es n (Err f) → IsErrAnd o (λ y. y ≡ f) → Went r en log n o
-    stopped n (Ok v) f p e = absurd e
-    stopped n (Err y) f p e =
-        subst (λ (z : JudgeFault). Went r en log n (Err z)) (sym e) (record { shown = u.es; goes = u.rest u.es (Some f) (p.1 ls); watches = p.0 })
+    pub stopped : length log ≤ most_bytes → (n : Monitor) (o : Result (Unit {0}) JudgeFault) (f : JudgeFault) → Passes r en log l u.es n (Err f) → IsErrAnd o (λ y. y ≡ f) → Went r en log n o
+    stopped h n (Ok v) f p e = absurd e
+    stopped h n (Err y) f p e =
+        subst (λ (z : JudgeFault). Went r en log n (Err z)) (sym e) (record { shown = u.es; stops = line_by_line h (u.rest u.es (Some f) (p.1 ls)); watches = p.0 })
 
-  pub ended : (ls : List LogLine) → None ≡ first ls → Under r en log m ls → Went r en log m (Ok tt)
-  ended [] e u = record { shown = u.es; goes = u.rest u.es None at_the_end; watches = u.watches }
-  ended (l ∷ ls) e u = absurd (let z : ◌≡◌ {A = ℕ} 0 1 = cc in omega arith)
+  pub ended : length log ≤ most_bytes → (ls : List LogLine) → None ≡ first ls → Under r en log m ls → Went r en log m (Ok tt)
+  ended h [] e u = record { shown = u.es; stops = line_by_line h (u.rest u.es None at_the_end); watches = u.watches }
+  ended h (l ∷ ls) e u = absurd (let z : ◌≡◌ {A = ℕ} 0 1 = cc in omega arith)
+
+  -- no line of a log that is too long is shown
+  pub refused_whole : run_of m ≡ begin → r ≡ m.rule → most_bytes < length log → Went r en log m (Err TooLong)
+  refused_whole b q h = record { shown = []; stops = too_long h; watches = on_rule m.rule r [] m (sym q) (fresh m b) }
 
 -- what was told is the judgement
-judged : (r : Rule) (en : Entries) (log : List ℕ) (es : List Meaning) (o : Option JudgeFault) (j : Judgement) → Stops r en log es o → Tells r es o j → Judges r en log j
-judged r en log es o j s t = record { shown = es; stops = subst (Stops r en log es) (sym t.fault) s; counts = t.counts; verdict = t.verdict }
-
-module _ (r : Rule) (en : Entries) (log : List ℕ) (m : Monitor) (b : Begins r m) (j : Judgement) where
-  pub refused_whole : most_bytes < length log → ((s : Rule) (es : List Meaning) → Watches s es m → Tells s es (Some TooLong) j) → Judges r en log j
-  refused_whole h t = judged r en log [] (Some TooLong) j (too_long h) (t r [] (on_rule m.rule r [] m b.rule (fresh m b.run)))
-
-  pub judged_so : (n : Monitor) (o : Result (Unit {0}) JudgeFault) (f : Option JudgeFault) → length log ≤ most_bytes → Went m.rule en log n o → f ≡ fault_in o
-      → ((s : Rule) (es : List Meaning) → Watches s es n → Tells s es f j) → Judges r en log j
-  judged_so n o f h g e t =
-      let w : Went r en log n o = subst (λ (x : Rule). Went x en log n o) b.rule g in
-      judged r en log w.shown f j (line_by_line h (subst (Goes r en log [] (lines_of log) w.shown) (sym e) w.goes)) (t r w.shown w.watches)
+pub judged : (r : Rule) (en : Entries) (log : List ℕ) (m n : Monitor) (o : Result (Unit {0}) JudgeFault) (j : Judgement) → Begins r m → Went m.rule en log n o
+    → ((s : Rule) (es : List Meaning) → Watches s es n → Tells s es (result_err o) j) → Judges r en log j
+judged r en log m n o j b g t =
+    let w : Went r en log n o = subst (λ (x : Rule). Went x en log n o) b.rule g in
+    let q : Tells r w.shown (result_err o) j = t r w.shown w.watches in
+    record { shown = w.shown; stops = subst (Stops r en log w.shown) (sym q.fault) w.stops; counts = q.counts; verdict = q.verdict }

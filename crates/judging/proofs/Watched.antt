@@ -1,5 +1,5 @@
 -- A monitor that is shown one line of a log.
-use Rattle.std.proofs.Common.{◌≡◌, ℕ, List, [], ◌∷◌, ◌++◌, length, IsErrAnd, Ok, Err, Result, sym, refl, ap, ◌∙◌, subst}
+use Rattle.std.proofs.Common.{◌≡◌, ℕ, List, [], ◌∷◌, ◌++◌, length, IsErrAnd, Ok, Err, MatchResult, Result, sym, refl, ap, ◌∙◌, subst}
 use Rattle.events.specs.declared.derived.Entries.{Entries}
 use Rattle.events.specs.declared.derived.Derived.{Derived}
 use Rattle.events.specs.Meanings.{single}
@@ -14,13 +14,13 @@ use Rattle.calculus.specs.Visited.{Full as Overfull}
 use Rattle.calculus.specs.Runs.{Run, begin, run}
 use Rattle.monitor.specs.declared.Monitor.{Monitor}
 use Rattle.monitor.specs.declared.fault.ShowFault.{ShowFault}
-use Rattle.monitor.specs.declared.fault.ShowFault.TheVariants.{Full as TooFull, Memory as NoMemory}
-use Rattle.monitor.specs.Uses.{Call, shows, run_of, Shown, Shows, Made, begun, Use}
+use Rattle.monitor.specs.declared.fault.ShowFault.TheVariants.{Limit, Full as TooFull, Memory as NoMemory}
+use Rattle.monitor.specs.Uses.{shows, run_of, Shown, Shows, Made, begun, GoesOn}
 use Rattle.monitor.proofs.Kept.{any_use, led, events_more}
 use Rattle.judging.specs.declared.fault.JudgeFault.{JudgeFault}
-use Rattle.judging.specs.declared.fault.JudgeFault.TheVariants.{BadLine, Full, Memory}
+use Rattle.judging.specs.declared.fault.JudgeFault.TheVariants.{BadLine}
 use Rattle.judging.specs.Judging.{event_of, FullAfter, at_a_bad_line, where_full, out_of_memory}
-use Rattle.judging.specs.Watching.{Watches, Further, Passes}
+use Rattle.judging.specs.Watching.{Watches, Further, Passes, StopsAt}
 
 -- what a derived event over a line means
 abbrev event_in : Derived Line → Meaning
@@ -59,7 +59,7 @@ module _ (r : Rule) (es : List Meaning) (m : Monitor) (w : Watches r es m) where
 
   module _ (en : Entries) (log : List ℕ) (l : LogLine) where
     further : (n : Monitor) (x : Line) → Ok x ≡ log_line_of l log → Shown (event_of en x) m n
-        → ((cs : List Call) → Use m cs → Use n (cs ++ (shows (event_of en x) (Ok tt) ∷ []))) → Further r en log l es n
+        → GoesOn m (shows (event_of en x) (Ok tt)) n → Further r en log l es n
     further n x q s u = record {
       line = x;
       reads = sym q;
@@ -73,23 +73,29 @@ module _ (r : Rule) (es : List Meaning) (m : Monitor) (w : Watches r es m) where
     }
 
     -- the event that was shown is the line under the entries
-    pub goes_further : (n : Monitor) (x : Line) (d : Derived Line) → Ok x ≡ log_line_of l log → d ≡ record { below = x; entries = en } → Shown (event_in d) m n
-        → ((cs : List Call) → Use m cs → Use n (cs ++ (shows (event_in d) (Ok tt) ∷ []))) → Further r en log l es n
+    goes_further : (n : Monitor) (x : Line) (d : Derived Line) → Ok x ≡ log_line_of l log → d ≡ record { below = x; entries = en } → Shown (event_in d) m n
+        → GoesOn m (shows (event_in d) (Ok tt)) n → Further r en log l es n
     goes_further n x d q e s u =
         further n x q (subst (λ (z : Derived Line). Shown (event_in z) m n) e s)
-        (subst (λ (z : Derived Line). (cs : List Call) → Use m cs → Use n (cs ++ (shows (event_in z) (Ok tt) ∷ []))) e u)
+        (subst (λ (z : Derived Line). GoesOn m (shows (event_in z) (Ok tt)) n) e u)
 
-    pub stops_full : (n : Monitor) (x : Line) (d : Derived Line) (f : ShowFault) (g : JudgeFault) → Ok x ≡ log_line_of l log → d ≡ record { below = x; entries = en } → f ≡ TooFull
-        → g ≡ Full l.number → Shows (event_in d) m n (Err f) → Passes r en log l es n (Err g)
-    stops_full n x d f g q e t v h =
-        let s : Shows (event_of en x) m n (Err TooFull) = subst (λ (z : ShowFault). Shows (event_of en x) m n (Err z)) t (subst (λ (z : Derived Line). Shows (event_in z) m n (Err f)) e h) in
-        subst (λ (z : JudgeFault). Passes r en log l es n (Err z)) (sym v) (same_monitor n s.1.1, λ ls. where_full (sym q) (full_here (event_of en x) s.1.0))
+    -- the event was not shown
+    stops_there : (n : Monitor) (x : Line) (d : Derived Line) (f : ShowFault) (g : JudgeFault) → Ok x ≡ log_line_of l log → d ≡ record { below = x; entries = en }
+        → StopsAt l f g → Shows (event_in d) m n (Err f) → Passes r en log l es n (Err g)
+    stops_there n x d TooFull g q e t h =
+        let s : Shows (event_of en x) m n (Err TooFull) = subst (λ (z : Derived Line). Shows (event_in z) m n (Err TooFull)) e h in
+        subst (λ (z : JudgeFault). Passes r en log l es n (Err z)) (sym t) (same_monitor n s.1.1, λ ls. where_full (sym q) (full_here (event_of en x) s.1.0))
+    stops_there n x d NoMemory g q e t h =
+        subst (λ (z : JudgeFault). Passes r en log l es n (Err z)) (sym t) (same_monitor n h.1, λ ls. out_of_memory (sym q))
+    stops_there n x d Limit g q e t h = absurd t
 
-    pub stops_without_memory : (n : Monitor) (x : Line) (d : Derived Line) (f : ShowFault) → Ok x ≡ log_line_of l log → f ≡ NoMemory → Shows (event_in d) m n (Err f)
-        → Passes r en log l es n (Err (Memory l.number))
-    stops_without_memory n x d f q t h =
-        let s : Shows (event_in d) m n (Err NoMemory) = subst (λ (z : ShowFault). Shows (event_in d) m n (Err z)) t h in
-        (same_monitor n s.1, λ ls. out_of_memory (sym q))
+    -- what showing the event came to
+    pub passed : (n : Monitor) (x : Line) (d : Derived Line) (t : Result (Unit {0}) ShowFault) (o : Result (Unit {0}) JudgeFault) → Ok x ≡ log_line_of l log
+        → d ≡ record { below = x; entries = en } → Shows (event_in d) m n t → GoesOn m (shows (event_in d) t) n
+        → MatchResult t (λ u. o ≡ Ok u) (λ f. IsErrAnd o (StopsAt l f)) → Passes r en log l es n o
+    passed n x d (Ok u) o q e s h k = subst (Passes r en log l es n) (sym k) (goes_further n x d q e s h)
+    passed n x d (Err f) (Ok u) q e s h k = absurd k
+    passed n x d (Err f) (Err g) q e s h k = stops_there n x d f g q e k s
 
     pub stops_at : (o : Result (Unit {0}) JudgeFault) (f : LogFault) → Err f ≡ log_line_of l log → IsErrAnd o (λ y. y ≡ BadLine f) → Passes r en log l es m o
     stops_at (Ok u) f q e = absurd e

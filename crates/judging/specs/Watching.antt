@@ -1,15 +1,19 @@
 -- A monitor while a log is judged; for the steps of judging.
-use Rattle.std.specs.Prelude.{◌≡◌, ℕ, List, [], ◌∷◌, ◌++◌, Some, None, Ok, Err, Option, Result}
+use Rattle.std.specs.Prelude.{◌≡◌, ℕ, List, [], ◌∷◌, ◌++◌, Some, Ok, Err, Option, Result}
+use Rattle.std.specs.Result.{result_err}
 use Rattle.events.specs.declared.derived.Entries.{Entries}
 use Rattle.lines.specs.declared.line.Line.{Line}
 use Rattle.lines.specs.declared.log.LogLine.{LogLine}
-use Rattle.lines.specs.Logs.{lines_of, log_line_of}
+use Rattle.lines.specs.Logs.{log_line_of}
 use Rattle.calculus.specs.Vocabulary.{Rule, Meaning}
 use Rattle.monitor.specs.declared.Monitor.{Monitor}
 use Rattle.monitor.specs.Uses.{Call, Use, events_in, Counted, Judged}
+use Rattle.monitor.specs.declared.fault.ShowFault.{ShowFault}
+use Rattle.monitor.specs.declared.fault.ShowFault.TheVariants.{Limit, Full, Memory}
 use Rattle.judging.specs.declared.fault.JudgeFault.{JudgeFault}
+use Rattle.judging.specs.declared.fault.JudgeFault.TheVariants.{Full as At_full, Memory as No_memory}
 use Rattle.judging.specs.declared.judgement.Judgement.{Judgement}
-use Rattle.judging.specs.Judging.{event_of, FullAfter, Goes}
+use Rattle.judging.specs.Judging.{event_of, FullAfter, Goes, Stops}
 
 -- a monitor that was begun on the rule and shown these events since, and no others
 pub record Watches (r : Rule) (es : List Meaning) (m : Monitor) : Type 0 where
@@ -36,13 +40,14 @@ abbrev pub Passes : Rule → Entries → List ℕ → LogLine → List Meaning �
 Passes r en log l es m (Ok u) = Further r en log l es m
 Passes r en log l es m (Err f) = Watches r es m × ((ls : List LogLine) → Goes r en log es (l ∷ ls) es (Some f))
 
--- what stopped it
-abbrev pub fault_in : Result (Unit {0}) JudgeFault → Option JudgeFault
-fault_in (Ok u) = None
-fault_in (Err f) = Some f
+-- a show that is refused stops judging at its line; the limit of shows is never met
+abbrev pub StopsAt : LogLine → ShowFault → JudgeFault → Type 0
+StopsAt l Full g = g ≡ At_full l.number
+StopsAt l Memory g = g ≡ No_memory l.number
+StopsAt l Limit g = ⊥
 
--- all lines of a log, up to the first fault
+-- a log was gone through up to the first fault, if it has one
 pub record Went (r : Rule) (en : Entries) (log : List ℕ) (m : Monitor) (o : Result (Unit {0}) JudgeFault) : Type 0 where
   pub shown : List Meaning
-  pub goes : Goes r en log [] (lines_of log) shown (fault_in o)
+  pub stops : Stops r en log shown (result_err o)
   pub watches : Watches r shown m

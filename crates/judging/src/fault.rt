@@ -1,11 +1,12 @@
 // Why judging stopped before the end of the log.
-ghost use Rattle.std.specs.Prelude.{◌≡◌};
+ghost use Rattle.std.specs.Prelude.{◌≡◌, Some};
 ghost use Rattle.judging.specs.Refusals.{refusal_of, line_of, cause_of};
 ghost use Rattle.judging.specs.declared.fault.JudgeFault.TheVariants.{BadLine};
 
 use lines::fault::LogFault;
 use monitor::fault::ShowFault;
 use refusals::{Layer, Place, Refusal};
+use std::fmt;
 
 #[derive(Clone, Copy)]
 pub enum JudgeFault {
@@ -43,20 +44,20 @@ impl JudgeFault {
         match self {
             JudgeFault::TooLong => 0,
             JudgeFault::BadLine(fault) => fault.line.word.line,
-            JudgeFault::Full(line) => *line,
-            JudgeFault::Memory(line) => *line,
+            JudgeFault::Full(line) | JudgeFault::Memory(line) => *line,
         }
     }
+}
 
-    // The cause in plain words.
-    pub fn cause(&self) -> &'static str
-        ensures { result.now ≡ cause_of self.now }
-    {
+impl fmt::Display for JudgeFault {
+    ghost output = { λ f. Some (cause_of f) };
+
+    fn fmt<W: fmt::Write>(&self, f: &mut fmt::Formatter<W>) -> fmt::Result {
         match self {
-            JudgeFault::TooLong => "the log is over 65536 bytes",
-            JudgeFault::BadLine(fault) => fault.line.word.cause.words(),
-            JudgeFault::Full(_) => "the monitor is full",
-            JudgeFault::Memory(_) => "memory is wanting",
+            JudgeFault::TooLong => f.write_str("the log is over 65536 bytes"),
+            JudgeFault::BadLine(fault) => fault.line.word.cause.fmt(f),
+            JudgeFault::Full(_) => ShowFault::Full.fmt(f),
+            JudgeFault::Memory(_) => ShowFault::Memory.fmt(f),
         }
     }
 }

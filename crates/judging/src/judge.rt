@@ -1,11 +1,11 @@
 // Judging a log by a rule.
-ghost use Rattle.std.specs.Prelude.{◌≡◌, ◌<◌, ◌≤◌, List, [], length, IfOk};
+ghost use Rattle.std.specs.Prelude.{◌≡◌, ◌≢◌, ◌<◌, List, IfOk};
+ghost use Rattle.std.specs.Result.{result_err};
 ghost use Rattle.calculus.specs.Runs.{begin};
 ghost use Rattle.calculus.specs.Vocabulary.{Rule as R, Meaning};
 ghost use Rattle.monitor.specs.Uses.{run_of, Begins};
-ghost use Rattle.judging.specs.declared.fault.JudgeFault.TheVariants.{Full};
 ghost use Rattle.judging.specs.Judging.{Judges, Alone};
-ghost use Rattle.judging.specs.Watching.{Watches, Passes, fault_in, Went, Tells};
+ghost use Rattle.judging.specs.Watching.{Watches, Passes, Went, Tells, StopsAt};
 
 use crate::fault::JudgeFault;
 use crate::judgement::Judgement;
@@ -33,96 +33,85 @@ pub fn judge(
     ensures alone { IfOk result (λ j. Alone rule.now entries.now log.now j) }
 {
     let monitor = Monitor::begin(heap, rule)?;
-    Ok(judge_by(heap, monitor, entries, log))
+    let judging = Judging { heap, entries, log };
+    Ok(judging.by(monitor))
 }
 
-// Judges a log by a monitor that was just begun.
-fn judge_by(heap: Global, mut monitor: Monitor, entries: &Entries, log: &[u8]) -> Judgement
-    requires { run_of monitor ≡ begin }
-    ensures judges { (rule : R) → Begins rule monitor → Judges rule entries.now log.now result }
-    ensures alone { (rule : R) → Begins rule monitor → Alone rule entries.now log.now result }
-{
-    if log.len() > MOST_BYTES {
-        return told(&monitor, Some(JudgeFault::TooLong));
+// A log whose lines are events under some entries, and the memory to judge it in.
+#[derive(Clone, Copy)]
+struct Judging<'a> {
+    heap: Global,
+    entries: &'a Entries,
+    log: &'a [u8],
+}
+
+impl Judging<'_> {
+    // Judges the log by a monitor that was just begun.
+    fn by(&self, mut monitor: Monitor) -> Judgement
+        requires { run_of monitor ≡ begin }
+        ensures judges { (rule : R) → Begins rule monitor → Judges rule self.now.entries.now self.now.log.now result }
+        ensures alone { (rule : R) → Begins rule monitor → Alone rule self.now.entries.now self.now.log.now result }
+    {
+        let shown = self.show_log(&mut monitor);
+        told(&monitor, shown)
     }
-    let shown = show_log(heap, &mut monitor, entries, log);
-    told(&monitor, stopped_by(shown))
-}
 
-// The fault that judging ended with, if it did.
-fn stopped_by(shown: Result<(), JudgeFault>) -> Option<JudgeFault>
-    ensures { result ≡ fault_in shown }
-{
-    match shown {
-        Ok(()) => None,
-        Err(fault) => Some(fault),
+    // Shows a fresh monitor the lines of the log, one after the other, unless there are too many bytes.
+    fn show_log(&self, monitor: &mut Monitor) -> Result<(), JudgeFault>
+        requires { run_of monitor.old ≡ begin }
+        ensures { Went monitor.old.rule self.now.entries.now self.now.log.now monitor.new result }
+    {
+        if self.log.len() > MOST_BYTES {
+            return Err(JudgeFault::TooLong);
+        }
+        let mut left = Lines::of(self.log);
+        while let Some(line) = left.next() {
+            self.show_line(monitor, line)?;
+        }
+        Ok(())
+    }
+
+    // Shows one line of the log, as an event under the entries.
+    fn show_line(&self, monitor: &mut Monitor, line: LogLine) -> Result<(), JudgeFault>
+        requires { monitor.old.shown < 1000000 }
+        ensures { (rule : R) (es : List Meaning) → Watches rule es monitor.old → Passes rule self.now.entries.now self.now.log.now line es monitor.new result }
+    {
+        let event = self.event(line.read(self.log)?);
+        monitor
+            .show(self.heap, &event)
+            .map_err(|fault| stopped_at(line, fault))
+    }
+
+    // A line under the entries.
+    fn event(&self, below: Line) -> Derived<Line>
+        ensures { result ≡ record { below = below; entries = self.now.entries.now } }
+    {
+        Derived {
+            below,
+            entries: *self.entries,
+        }
     }
 }
 
-// What a monitor answers, and the fault that it was left with.
-fn told(monitor: &Monitor, fault: Option<JudgeFault>) -> Judgement
-    ensures { (rule : R) (es : List Meaning) → Watches rule es monitor.now → Tells rule es fault result }
+// Why judging stops at a line whose event is not shown. A log has fewer lines than a monitor can be shown, so the limit is not met.
+fn stopped_at(line: LogLine, fault: ShowFault) -> JudgeFault
+    requires { fault ≢ ShowFault.Limit }
+    ensures { StopsAt line fault result }
+{
+    match fault {
+        ShowFault::Full => JudgeFault::Full(line.number),
+        ShowFault::Memory => JudgeFault::Memory(line.number),
+        ShowFault::Limit => unreachable!(),
+    }
+}
+
+// What a monitor answers once lines were shown, and the fault that ended it, if one did.
+fn told(monitor: &Monitor, shown: Result<(), JudgeFault>) -> Judgement
+    ensures { (rule : R) (es : List Meaning) → Watches rule es monitor.now → Tells rule es (result_err shown) result }
 {
     Judgement {
         counts: monitor.counts(),
         verdict: monitor.verdict(),
-        fault,
+        fault: shown.err(),
     }
-}
-
-// Shows a fresh monitor the lines of a log, one after the other.
-fn show_log(
-    heap: Global,
-    monitor: &mut Monitor,
-    entries: &Entries,
-    log: &[u8],
-) -> Result<(), JudgeFault>
-    requires begun { run_of monitor.old ≡ begin }
-    requires short { length log.now ≤ 65536 }
-    ensures { Went monitor.old.rule entries.now log.now monitor.new result }
-{
-    let mut left = Lines::of(log);
-    while let Some(line) = left.next() {
-        show_line(heap, monitor, entries, log, line)?;
-    }
-    Ok(())
-}
-
-// Shows one line of a log, as an event under the entries.
-fn show_line(
-    heap: Global,
-    monitor: &mut Monitor,
-    entries: &Entries,
-    log: &[u8],
-    line: LogLine,
-) -> Result<(), JudgeFault>
-    requires { monitor.old.shown < 1000000 }
-    ensures { (rule : R) (es : List Meaning) → Watches rule es monitor.old → Passes rule entries.now log.now line es monitor.new result }
-{
-    let below = line.read(log)?;
-    match monitor.show(heap, &derived(below, entries)) {
-        Ok(()) => Ok(()),
-        Err(fault) => match fault {
-            ShowFault::Full => Err(full_at(line)),
-            ShowFault::Memory => Err(JudgeFault::Memory(line.number)),
-            // A log has fewer lines than a monitor can be shown.
-            ShowFault::Limit => unreachable(),
-        },
-    }
-}
-
-// A line under the entries.
-fn derived(below: Line, entries: &Entries) -> Derived<Line>
-    ensures { result ≡ record { below = below; entries = entries.now } }
-{
-    Derived {
-        below,
-        entries: *entries,
-    }
-}
-
-fn full_at(line: LogLine) -> JudgeFault
-    ensures { result ≡ Full line.number }
-{
-    JudgeFault::Full(line.number)
 }

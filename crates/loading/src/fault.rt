@@ -1,11 +1,12 @@
 // Why bytes are no rule: they cannot be read, or their nodes do not stand up to checking.
-ghost use Rattle.std.specs.Prelude.{◌≡◌};
+ghost use Rattle.std.specs.Prelude.{◌≡◌, Some};
 ghost use Rattle.loading.specs.Refusals.{refusal_of, cause_of};
 ghost use Rattle.loading.specs.declared.fault.RuleFault.TheVariants.{Read, Check};
 
 use checking::fault::CheckFault;
 use refusals::Refusal;
 use rules::fault::ReadFault;
+use std::fmt;
 
 #[derive(Clone, Copy)]
 pub enum RuleFault {
@@ -18,19 +19,28 @@ impl RuleFault {
     pub fn refusal(&self) -> Refusal
         ensures { result ≡ refusal_of self.now }
     {
-        match self {
+        Refusal::from(*self)
+    }
+}
+
+impl From<RuleFault> for Refusal {
+    ghost from_gives = { λ f r. r ≡ refusal_of f };
+
+    fn from(fault: RuleFault) -> Refusal {
+        match fault {
             RuleFault::Read(fault) => fault.refusal(),
             RuleFault::Check(fault) => fault.refusal(),
         }
     }
+}
 
-    // The cause in plain words.
-    pub fn cause(&self) -> &'static str
-        ensures { result.now ≡ cause_of self.now }
-    {
+impl fmt::Display for RuleFault {
+    ghost output = { λ f. Some (cause_of f) };
+
+    fn fmt<W: fmt::Write>(&self, f: &mut fmt::Formatter<W>) -> fmt::Result {
         match self {
-            RuleFault::Read(fault) => fault.cause(),
-            RuleFault::Check(fault) => fault.cause(),
+            RuleFault::Read(fault) => f.write_str(fault.cause()),
+            RuleFault::Check(fault) => f.write_str(fault.cause()),
         }
     }
 }

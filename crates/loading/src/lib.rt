@@ -25,6 +25,6 @@ fn load_by(bytes: &[u8], list: &mut [NodeRecord; MOST_NODES]) -> Result<Rule, Ru
 {
     let count = read(bytes, list)?;
     let mut rule = Rule::empty();
-    check(&list[0..count as usize], &mut rule)?;
+    check(&list[..count as usize], &mut rule)?;
     Ok(rule)
 }

@@ -1,12 +1,11 @@
 -- Showing an event, from what stepping answers.
-use Rattle.std.proofs.Common.{◌≡◌, ℕ, ◌+◌, ◌<◌, ◌≤◌, List, [], ◌∷◌, ◌++◌, length, IsErrAnd, Ok, Err, vec_items, Result, Vec, sym, refl, ap, ◌∙◌, subst, add-zero, add-one, arith}
+use Rattle.std.proofs.Common.{◌≡◌, ◌<◌, List, [], ◌∷◌, ◌++◌, IsErrAnd, Ok, Err, vec_items, Result, Vec, sym, refl, ap, ◌∙◌, subst}
 use borrow.Author.Tests.{clash}
 use Rattle.std.specs.declared.alloc.Global.{Global}
 use Rattle.calculus.specs.Vocabulary.{Rule, Meaning}
 use Rattle.calculus.specs.Matching.{Proper}
 use Rattle.calculus.specs.Graphs.{graph_of}
-use Rattle.calculus.specs.Runs.{Run, show, move}
-use Rattle.calculus.specs.States.{State}
+use Rattle.calculus.specs.Runs.{show, move}
 use Rattle.stepping.specs.Listed.{states}
 use Rattle.states.specs.declared.tree.Tree.{Tree}
 use Rattle.calculus.specs.declared.verdict.Verdict.{Verdict}
@@ -22,10 +21,10 @@ use Rattle.monitor.specs.Faults.{turned}
 use Rattle.monitor.specs.declared.Monitor.{Monitor}
 use Rattle.monitor.specs.declared.fault.ShowFault.{ShowFault}
 use Rattle.monitor.specs.declared.fault.ShowFault.TheVariants.{Limit, Full, Memory}
-use Rattle.monitor.specs.Uses.{Call, shows, gain, run_of, Shown, Shows, is_shown, at_the_limit, is_full, out_of_memory, Made, one_more, Use, asks_verdict, answers_verdict, verdict_of, events_in, Judged}
+use Rattle.monitor.specs.Uses.{Call, shows, run_of, Shown, Shows, is_shown, at_the_limit, is_full, out_of_memory, Made, one_more, Use, GoesOn, asks_verdict, answers_verdict, verdict_of, events_in, Judged}
 
 -- what a show did, as one call more of a use
-pub one_show : (e : Meaning) (m n : Monitor) (r : Result (Unit {0}) ShowFault) → (m.shown < 1000000 → Proper e) → Shows e m n r → (cs : List Call) → Use m cs → Use n (cs ++ (shows e r ∷ []))
+pub one_show : (e : Meaning) (m n : Monitor) (r : Result (Unit {0}) ShowFault) → (m.shown < 1000000 → Proper e) → Shows e m n r → GoesOn m (shows e r) n
 one_show e m n (Ok tt) p s cs u =
     let on : Made m.rule (cs ++ (shows e (Ok tt) ∷ [])) (show (graph_of m.rule) e (run_of m)) = one_more u (is_shown (p s.few) s.few s.room) in
     subst (λ (q : Rule). Made q (cs ++ (shows e (Ok tt) ∷ [])) (run_of n)) (sym s.rule)
@@ -33,26 +32,6 @@ one_show e m n (Ok tt) p s cs u =
 one_show e m n (Err Limit) p s cs u = subst (λ (k : Monitor). Use k (cs ++ (shows e (Err Limit) ∷ []))) (sym s.1) (one_more u (at_the_limit s.0))
 one_show e m n (Err Full) p s cs u = subst (λ (k : Monitor). Use k (cs ++ (shows e (Err Full) ∷ []))) (sym s.1.1) (one_more u (is_full s.0 s.1.0))
 one_show e m n (Err Memory) p s cs u = subst (λ (k : Monitor). Use k (cs ++ (shows e (Err Memory) ∷ []))) (sym s.1) (one_more u (out_of_memory s.0))
-
-pub gain_one : (ts : List State) → gain ts ≤ 1
-gain_one [] = omega arith
-gain_one (t ∷ ts) = omega arith
-
-pub gain_none : (ts : List Tree) → length ts ≡ 0 → 0 ≡ gain (states ts)
-gain_none [] h = refl
-gain_none (t ∷ ts) h = absurd (omega arith)
-
-pub gain_some : (ts : List Tree) → (length ts ≡ 0 → ⊥) → 1 ≡ gain (states ts)
-gain_some [] h = absurd (h refl)
-gain_some (t ∷ ts) h = refl
-
--- counting and holding is a move of the run
-pub moved : (ts : List State) (M : Run) (k : ℕ) → k ≡ gain ts → record { states = ts; shown = M.shown + 1; taken = M.taken + k } ≡ move ts M
-moved ts M k e = ap (λ (n : ℕ). record { states = ts; shown = M.shown + 1; taken = M.taken + n }) e ∙ go ts
-  where
-    go : (ts : List State) → record { states = ts; shown = M.shown + 1; taken = M.taken + gain ts } ≡ move ts M
-    go [] = let p = add-one M.shown in let q = add-zero M.taken in λ i. record { states = []; shown = p i; taken = q i }
-    go (t ∷ ts) = let p = add-one M.shown in let q = add-one M.taken in λ i. record { states = t ∷ ts; shown = p i; taken = q i }
 
 -- from what stepping answers to what showing does
 module _ (e : Meaning) (m : Monitor) (few : m.shown < 1000000) where
@@ -74,12 +53,12 @@ module _ (e : Meaning) (m : Monitor) (few : m.shown < 1000000) where
 
 -- the same of the event whose answers were noted
 pub as_shown : (d e : Meaning) (m n : Monitor) (r : Result (Unit {0}) ShowFault) → d ≡ e → Proper d → Shows d m n r
-    → Shows e m n r × ((cs : List Call) → Use m cs → Use n (cs ++ (shows e r ∷ [])))
+    → Shows e m n r × GoesOn m (shows e r) n
 as_shown d e m n r q p s =
-    subst (λ (x : Meaning). Shows x m n r × ((cs : List Call) → Use m cs → Use n (cs ++ (shows x r ∷ [])))) q (s, one_show d m n r (λ h. p) s)
+    subst (λ (x : Meaning). Shows x m n r × GoesOn m (shows x r) n) q (s, one_show d m n r (λ h. p) s)
 
 -- a verdict that was asked for
-pub asked : (m : Monitor) (v : Verdict) → v ≡ verdict_of m → (cs : List Call) → Use m cs → Use m (cs ++ (asks_verdict v ∷ []))
+pub asked : (m : Monitor) (v : Verdict) → v ≡ verdict_of m → GoesOn m (asks_verdict v) m
 asked m v q cs u = subst (λ (x : Verdict). Use m (cs ++ (asks_verdict x ∷ []))) (sym q) (one_more u answers_verdict)
 
 pub judged : (m : Monitor) (v : Verdict) → v ≡ verdict_of m → (cs : List Call) → Use m cs → Judged m.rule (events_in cs) v

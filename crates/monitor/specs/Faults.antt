@@ -1,5 +1,5 @@
--- Why an event is not shown, and what that refusal answers.
-use Rattle.std.specs.Prelude.{Some, None, Option}
+-- Why an event is not shown, what that refusal answers, and its cause in words.
+use Rattle.std.specs.Prelude.{ℕ, List, Some, None, Option, codes}
 use Rattle.refusals.specs.declared.Layer.TheVariants.{Showing}
 use Rattle.refusals.specs.declared.Place.TheVariants.{Nowhere}
 use Rattle.refusals.specs.declared.Refusal.{Refusal}
@@ -17,3 +17,8 @@ abbrev pub refusal_of : ShowFault → Option Refusal
 refusal_of Limit = Some (record { number = 31; layer = Showing; place = Nowhere })
 refusal_of Full = Some (record { number = 32; layer = Showing; place = Nowhere })
 refusal_of Memory = None
+
+abbrev pub cause_of : ShowFault → List ℕ
+cause_of Limit = codes "the monitor was shown a million events"
+cause_of Full = codes "the monitor is full"
+cause_of Memory = codes "memory is wanting"

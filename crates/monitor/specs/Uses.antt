@@ -5,7 +5,6 @@ use Rattle.calculus.specs.Numbers.{Choice}
 use Rattle.calculus.specs.Matching.{Proper}
 use Rattle.calculus.specs.Graphs.{graph_of}
 use Rattle.calculus.specs.Reading.{whole, beginning, Permits}
-use Rattle.calculus.specs.States.{State}
 use Rattle.calculus.specs.Visited.{Full as Overfull}
 use Rattle.calculus.specs.declared.verdict.Verdict.{Verdict}
 use Rattle.calculus.specs.declared.verdict.Verdict.TheVariants.{Broken, MayEnd, Open}
@@ -24,11 +23,6 @@ most_shown = 1000000
 -- what a monitor holds, with its counts
 abbrev pub run_of : Monitor → Run
 run_of m = record { states = states (vec_items m.held); shown = m.shown; taken = m.taken }
-
--- 1 where there is a state to hold
-abbrev pub gain : List State → ℕ
-gain [] = 0
-gain (t ∷ ts) = 1
 
 abbrev pub counts_of : Monitor → Counts
 counts_of m = record { shown = m.shown; taken = m.taken }
@@ -78,6 +72,10 @@ pub data Made (r : Rule) : List Call → Run → Type 0 where
 -- those calls were made on this monitor, and no others
 abbrev pub Use : Monitor → List Call → Type 0
 Use m cs = Made m.rule cs (run_of m)
+
+-- a call that took one monitor to another: every use of the first goes on by it
+abbrev pub GoesOn : Monitor → Call → Monitor → Type 0
+GoesOn m c n = (cs : List Call) → Use m cs → Use n (cs ++ (c ∷ []))
 
 -- the events shown: those of the shows that were not refused, in their order
 abbrev pub events_in : List Call → List Meaning

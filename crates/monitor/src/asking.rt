@@ -1,6 +1,6 @@
 // The two questions, each of which answers for every use of the monitor; and a look at the states that it holds.
-ghost use Rattle.std.specs.Prelude.{◌≡◌, List, [], ◌∷◌, ◌++◌};
-ghost use Rattle.monitor.specs.Uses.{Call, asks_counts, asks_verdict, counts_of, verdict_of, run_of, Use, events_in, Counted, Judged};
+ghost use Rattle.std.specs.Prelude.{◌≡◌, List};
+ghost use Rattle.monitor.specs.Uses.{Call, asks_counts, asks_verdict, counts_of, verdict_of, run_of, Use, GoesOn, events_in, Counted, Judged};
 ghost use Rattle.stepping.specs.Listed.{states};
 
 use crate::{Counts, Monitor};
@@ -12,7 +12,7 @@ impl Monitor {
     // How many events were shown, and how many of them were taken.
     pub fn counts(&self) -> Counts
         ensures answer { result ≡ counts_of self.now }
-        ensures uses { (cs : List Call) → Use self.now cs → Use self.now (cs ++ (asks_counts result ∷ [])) }
+        ensures uses { GoesOn self.now (asks_counts result) self.now }
         ensures says { (cs : List Call) → Use self.now cs → Counted self.now.rule (events_in cs) result }
     {
         Counts {
@@ -24,7 +24,7 @@ impl Monitor {
     // Broken where the counts differ; otherwise whether the events shown may end here.
     pub fn verdict(&self) -> Verdict
         ensures answer { result ≡ verdict_of self.now }
-        ensures uses { (cs : List Call) → Use self.now cs → Use self.now (cs ++ (asks_verdict result ∷ [])) }
+        ensures uses { GoesOn self.now (asks_verdict result) self.now }
         ensures says { (cs : List Call) → Use self.now cs → Judged self.now.rule (events_in cs) result }
     {
         if self.shown != self.taken {

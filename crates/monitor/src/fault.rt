@@ -1,12 +1,13 @@
 // Why an event is not shown.
-ghost use Rattle.std.specs.Prelude.{◌≡◌};
-ghost use Rattle.monitor.specs.Faults.{turned, refusal_of};
+ghost use Rattle.std.specs.Prelude.{◌≡◌, Some};
+ghost use Rattle.monitor.specs.Faults.{turned, refusal_of, cause_of};
 
 use refusals::{Layer, Place, Refusal};
+use std::fmt;
 use stepping::fault::StepFault;
 
 // The monitor was shown all that it can be; it would have to hold too much; or memory is wanting.
-#[derive(Clone, Copy)]
+#[derive(Clone, Copy, PartialEq, Eq, Debug)]
 pub enum ShowFault {
     Limit,
     Full,
@@ -18,7 +19,7 @@ impl ShowFault {
     pub fn refusal(&self) -> Option<Refusal>
         ensures { result ≡ refusal_of self.now }
     {
-        let number = match *self {
+        let number = match self {
             ShowFault::Limit => 31,
             ShowFault::Full => 32,
             ShowFault::Memory => return None,
@@ -27,6 +28,18 @@ impl ShowFault {
             number,
             layer: Layer::Showing,
             place: Place::Nowhere,
+        })
+    }
+}
+
+impl fmt::Display for ShowFault {
+    ghost output = { λ f. Some (cause_of f) };
+
+    fn fmt<W: fmt::Write>(&self, f: &mut fmt::Formatter<W>) -> fmt::Result {
+        f.write_str(match self {
+            ShowFault::Limit => "the monitor was shown a million events",
+            ShowFault::Full => "the monitor is full",
+            ShowFault::Memory => "memory is wanting",
         })
     }
 }

@@ -1,9 +1,9 @@
 // Beginning a monitor, and showing it events.
-ghost use Rattle.std.specs.Prelude.{◌≡◌, ◌<◌, List, [], ◌∷◌, ◌++◌, IfOk};
-ghost use Rattle.calculus.specs.Matching.{Proper, NarrowSlot};
+ghost use Rattle.std.specs.Prelude.{◌≡◌, ◌<◌, IfOk};
+ghost use Rattle.calculus.specs.Matching.{Proper};
 ghost use Rattle.calculus.specs.Graphs.{graph_of};
 ghost use Rattle.calculus.specs.Runs.{move};
-ghost use Rattle.monitor.specs.Uses.{Call, shows, gain, run_of, Begins, Shows, Use};
+ghost use Rattle.monitor.specs.Uses.{shows, run_of, Begins, Shows, GoesOn};
 ghost use Rattle.stepping.specs.Holding.{Follows};
 ghost use Rattle.stepping.specs.Listed.{states};
 
@@ -36,7 +36,7 @@ impl Monitor {
     // the monitor as it was; at the limit the event is not even queried.
     pub fn show<E: Event>(&mut self, heap: Global, event: &E) -> Result<(), ShowFault>
         ensures shows { Shows (E.meaning event.now) self.old self.new result }
-        ensures uses { (cs : List Call) → Use self.old cs → Use self.new (cs ++ (shows (E.meaning event.now) result ∷ [])) }
+        ensures uses { GoesOn self.old (shows (E.meaning event.now) result) self.new }
     {
         if self.shown >= MOST_SHOWN {
             return Err(ShowFault::Limit);
@@ -56,21 +56,16 @@ impl Monitor {
 
     // Counts an event and holds the states after it; where there are none, it was not taken.
     fn hold(&mut self, next: Vec<Tree>)
-        requires { self.old.shown < 1000000 }
+        requires { self.old.shown < MOST_SHOWN }
         ensures rule { self.new.rule ≡ self.old.rule }
         ensures run { run_of self.new ≡ move (states next.items) (run_of self.old) }
     {
         self.shown += 1;
-        self.taken += gained(&next);
+        if !next.is_empty() {
+            self.taken += 1;
+        }
         self.held = next;
     }
-}
-
-// An event was taken where there are states to hold after it.
-fn gained(next: &Vec<Tree>) -> u32
-    ensures { result ≡ gain (states next.now.items) }
-{
-    if next.is_empty() { 0 } else { 1 }
 }
 
 // What an event of any kind answers: its meaning.
@@ -78,34 +73,5 @@ fn asked<E: Event>(event: &E) -> Meaning
     ensures same { result ≡ E.meaning event.now }
     ensures proper { Proper result }
 {
-    proper(noted(event))
-}
-
-// What was noted of an event, whose slots hold numbers of 32 bits, as all of this type do.
-fn proper(noted: Meaning) -> Meaning
-    ensures same { result ≡ noted }
-    ensures proper { Proper result }
-{
-    let Meaning {
-        types,
-        player,
-        card,
-        strokes,
-    } = noted;
-    Meaning {
-        types,
-        player: narrow(player),
-        card: narrow(card),
-        strokes: narrow(strokes),
-    }
-}
-
-fn narrow(slot: Option<u32>) -> Option<u32>
-    ensures same { result ≡ slot }
-    ensures narrow { NarrowSlot result }
-{
-    match slot {
-        Some(n) => Some(n),
-        None => None,
-    }
+    noted(event)
 }

@@ -1,9 +1,7 @@
 // The rules that are played.
 use anyhow::anyhow;
-use checking::check::check;
 use checking::rule::Rule;
-use rules::read::read;
-use rules::record::{MOST_NODES, NodeRecord};
+use loading::load;
 use std::alloc::{AllocError, Global};
 
 // Either nothing, or a card is entered and then, shuffled with the same again, adjusted, cap-tested and published.
@@ -21,15 +19,7 @@ pub(crate) const MIXED: &[u8] = b"\x03\x0B\x01\x01\x30\x4B\x01\x02\x01\x00\x00\x
 
 // A rule of bytes that are known to be one.
 pub(crate) fn rule_of(bytes: &[u8]) -> anyhow::Result<Rule> {
-    let mut list = [NodeRecord::BLANK; MOST_NODES];
-    let mut rule = Rule::empty();
-    let Ok(count) = read(bytes, &mut list) else {
-        return Err(anyhow!("the bytes are no rule"));
-    };
-    match check(&list[..count as usize], &mut rule) {
-        Ok(()) => Ok(rule),
-        Err(_) => Err(anyhow!("the nodes are no rule")),
-    }
+    load(bytes).map_err(|fault| anyhow!("the bytes are no rule: {fault}"))
 }
 
 // The deepest rule that makes large states: 64 ors one below the other, then 62 filters, and events of type 1 without end. Its rank

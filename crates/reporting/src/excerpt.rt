@@ -12,6 +12,6 @@ pub fn excerpt<'a>(rule: &'a [u8], log: &'a [u8], fault: &Refusal) -> &'a [u8]
     match (fault.layer, fault.place) {
         (Layer::Reading, Place::Bytes(span)) => span.part(rule),
         (Layer::Word, Place::Bytes(span)) => span.part(log),
-        _ => &rule[0..0],
+        _ => &[],
     }
 }

@@ -1,21 +1,31 @@
 // Why a report is not written.
-ghost use Rattle.std.specs.Prelude.{◌≡◌};
-ghost use Rattle.reporting.specs.Text.{report_refusal};
+ghost use Rattle.std.specs.Prelude.{◌≡◌, Some};
+ghost use Rattle.reporting.specs.Refusals.{refusal_of, cause_of};
 
 use refusals::{Layer, Place, Refusal};
+use std::fmt;
 
 // The caller's buffer has too little room for the longest report.
-#[derive(Clone, Copy)]
+#[derive(Clone, Copy, PartialEq, Eq, Debug)]
 pub enum ReportFault {
     ShortBuffer,
 }
 
-impl ReportFault {
-    // Number, layer and place.
-    pub fn refusal(&self) -> Refusal
-        ensures { result ≡ report_refusal self.now }
-    {
-        match *self {
+impl fmt::Display for ReportFault {
+    ghost output = { λ f. Some (cause_of f) };
+
+    fn fmt<W: fmt::Write>(&self, f: &mut fmt::Formatter<W>) -> fmt::Result {
+        f.write_str(match self {
+            ReportFault::ShortBuffer => "the buffer has no room for a report",
+        })
+    }
+}
+
+impl From<ReportFault> for Refusal {
+    ghost from_gives = { λ f r. r ≡ refusal_of f };
+
+    fn from(fault: ReportFault) -> Refusal {
+        match fault {
             ReportFault::ShortBuffer => Refusal {
                 number: 22,
                 layer: Layer::Report,

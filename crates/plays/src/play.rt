@@ -1,0 +1,49 @@
+// A play: events shown to a monitor, and how many of them it refused.
+use anyhow::anyhow;
+use checking::rule::Rule;
+use events::event::Event;
+use monitor::Monitor;
+use monitor::fault::ShowFault;
+use std::alloc::{AllocError, Global};
+
+#[derive(Drop)]
+pub(crate) struct Play {
+    heap: Global,
+    monitor: Monitor,
+    pub(crate) refused: u32,
+}
+
+impl Play {
+    // Begins a play by a rule.
+    pub(crate) fn begin(heap: Global, rule: &Rule) -> Result<Play, AllocError> {
+        let monitor = Monitor::begin(heap, rule)?;
+        Ok(Play {
+            heap,
+            monitor,
+            refused: 0,
+        })
+    }
+
+    // Shows an event, and counts it where it is refused; want of memory ends the program.
+    pub(crate) fn show<E: Event>(&mut self, event: &E) -> anyhow::Result<()> {
+        match self.monitor.show(self.heap, event) {
+            Ok(()) => Ok(()),
+            Err(ShowFault::Memory) => Err(anyhow!("memory is wanting")),
+            Err(ShowFault::Full | ShowFault::Limit) => {
+                self.refused = self.refused.saturating_add(1);
+                Ok(())
+            }
+        }
+    }
+
+    // Prints what the play comes to.
+    pub(crate) fn tell(&self, rt: &HostRuntime, name: &str) -> anyhow::Result<()> {
+        let counts = self.monitor.counts();
+        let shown = counts.shown;
+        let taken = counts.taken;
+        let verdict = self.monitor.verdict();
+        let refused = self.refused;
+        println!(rt; "{name}: shown {shown} taken {taken} {verdict}, {refused} refused")?;
+        Ok(())
+    }
+}
