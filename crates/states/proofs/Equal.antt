@@ -3,7 +3,6 @@ use Rattle.std.proofs.Common.{◌≡◌, Bool, ◌&&◌, ℕ, eqb, refl, ◌∙�
 use Rattle.std.specs.Option.{option_eq}
 use Rattle.rules.specs.contracts.node.OpPartialEq.TheImpl as ops
 use Rattle.rules.specs.contracts.node.VarPartialEq.TheImpl as vars
-use Rattle.rules.specs.contracts.substitution.SubstitutionPartialEq.TheImpl as substitutions
 use Rattle.calculus.specs.Vocabulary.{None, Op, Option, Or, And, Concat, Shuffle, Some, Var, V0, V1, V2, V3, Substitution, same}
 use Rattle.calculus.specs.Equality.{same_number, same_numbers, same_op, same_state}
 use Rattle.states.specs.contracts.tree.TreePartialEq.TheImpl.{ghosts}
@@ -57,14 +56,11 @@ number_same (Some j) (Some k) = refl
 both : {a b c d : Bool} → a ≡ b → c ≡ d → (a && c) ≡ (b && d)
 both p q = ap₂ (λ (x y : Bool). x && y) p q
 
--- the equality of substitutions is that of the calculus
-pub numbers_same : (σ τ : Substitution) → substitutions.ghosts.eq σ τ ≡ same_numbers σ τ
-numbers_same σ τ =
-    both (number_same σ.n0 τ.n0) (both (number_same σ.n1 τ.n1) (both (number_same σ.n2 τ.n2) (number_same σ.n3 τ.n3)))
-
 -- the derived equality of trees is that of their states
 pub tree_same : (a b : Tree) → ghosts.eq a b ≡ same_state (state a) (state b)
-tree_same (Leaf n σ) (Leaf m τ) = is (Leaf n σ) (Leaf m τ) ∙ ap (λ (c : Bool). eqb n m && c) (numbers_same σ τ)
+tree_same (Leaf n σ) (Leaf m τ) = is (Leaf n σ) (Leaf m τ) ∙ 
+    ap (λ (c : Bool). eqb n m && c)
+    (both (number_same σ.v0 τ.v0) (both (number_same σ.v1 τ.v1) (both (number_same σ.v2 τ.v2) (number_same σ.v3 τ.v3))))
 tree_same (Leaf n σ) (Pair' o p l q r) = is (Leaf n σ) (Pair' o p l q r)
 tree_same (Leaf n σ) (Binder' v p t) = is (Leaf n σ) (Binder' v p t)
 tree_same (Leaf n σ) (Filter' m p t) = is (Leaf n σ) (Filter' m p t)
