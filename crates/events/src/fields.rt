@@ -16,6 +16,7 @@ pub struct Fields {
 }
 
 impl Fields {
+    #[tactic(auto, using(std::proofs::lemmas::Bool::Decides::nat_tests, crate::specs::Sets::has_those))]
     pub fn is_of(&self, ty: u8) -> bool
         ensures { result ≡ has (single self.now).types ty }
     {

@@ -18,6 +18,7 @@ impl TypeSet {
         self.bits == 0
     }
 
+    #[tactic(auto, using(std::proofs::lemmas::Bool::Decides::nat_tests), unfolding(crate::specs::Types::has))]
     pub fn contains(self, ty: u8) -> bool
         ensures { result ≡ has self ty }
     {

@@ -21,6 +21,7 @@ pub struct Line {
 
 impl Line {
     // Reads words between single spaces: a type, and then at most one each of p, c and s with digits.
+    #[tactic(auto, using(crate::proofs::Exact::exactly))]
     pub fn read(bytes: &[u8]) -> Result<Line, LineFault>
         ensures answer { result ≡ alone bytes.now }
         ensures exact { Exactly bytes.now result }

@@ -51,6 +51,7 @@ impl RecordFault {
 
 impl Record {
     // Reads a map byte, a type byte, and the fields that the map announces.
+    #[tactic(auto, using(crate::proofs::Exact::exactly_at))]
     pub fn read(bytes: &[u8]) -> Result<Record, RecordFault>
         ensures answer { result ≡ record_of bytes.now }
         ensures exact { Exactly bytes.now result }

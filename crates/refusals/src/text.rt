@@ -18,6 +18,7 @@ struct Escaped(u8);
 impl fmt::Display for Escaped {
     ghost output = { λ x. Some (escaped x.0) };
 
+    #[tactic(auto, using(std::proofs::lemmas::Fmt::hex_byte))]
     fn fmt<W: fmt::Write>(&self, f: &mut fmt::Formatter<W>) -> fmt::Result {
         let b = self.0;
         if is_plain(b) {
