@@ -12,19 +12,17 @@ mod tests {
     use rules::span::node_span;
     use std::test::Fail;
 
-    // What reading into a list of all 128 records and then checking refuses.
-    fn refused(bytes: &[u8]) -> Option<Refusal> {
+    // Reading into a list of all 128 records, and then checking.
+    fn load(bytes: &[u8]) -> Result<(), Refusal> {
         let mut list = [NodeRecord::BLANK; MOST_NODES];
-        match read(bytes, &mut list) {
-            Err(fault) => Some(fault.refusal()),
-            Ok(count) => {
-                let mut rule = Rule::empty();
-                match check_rule(&list[..count as usize], &mut rule) {
-                    Err(fault) => Some(fault.refusal()),
-                    Ok(()) => None,
-                }
-            }
-        }
+        let count = read(bytes, &mut list)?;
+        check_rule(&list[..count as usize], &mut Rule::empty())?;
+        Ok(())
+    }
+
+    // What is refused, if anything.
+    fn refused(bytes: &[u8]) -> Option<Refusal> {
+        load(bytes).err()
     }
 
     fn in_bytes(number: u8, at: usize, len: usize) -> Option<Refusal> {
@@ -107,13 +105,13 @@ mod tests {
         let mut short = [NodeRecord::BLANK; 1];
         match read(&[2, 0, 0], &mut short) {
             Ok(_) => return Err(Fail::new("two nodes were read into one record")),
-            Err(fault) => assert!(rt; fault.refusal().number == 21),
+            Err(fault) => assert!(rt; Refusal::from(fault).number == 21),
         }
         let mut rule = Rule::empty();
         match check_rule(&[], &mut rule) {
             Ok(()) => Err(Fail::new("no records were accepted")),
             Err(fault) => {
-                assert_eq!(rt; Some(fault.refusal()), at_node(2, 0));
+                assert_eq!(rt; Some(Refusal::from(fault)), at_node(2, 0));
                 Ok(())
             },
         }

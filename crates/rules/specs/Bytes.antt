@@ -1,5 +1,5 @@
 -- What the bytes of a rule say.
-use Rattle.std.specs.Prelude.{ℕ, zero, suc, ◌+◌, ◌-◌, ◌*◌, Bool, true, false, cond, ◌&&◌, List, [], ◌∷◌, ◌++◌, length, take, drop, is_some, Some, None, Ok, Err, Option, Result, nat_le}
+use Rattle.std.specs.Prelude.{◌≡◌, ℕ, zero, suc, ◌+◌, ◌-◌, ◌*◌, Bool, true, false, cond, ◌&&◌, List, [], ◌∷◌, ◌++◌, length, take, drop, is_some, Some, None, Ok, Err, Option, Result, nat_le}
 use Rattle.rules.specs.declared.record.SlotField.{SlotField}
 use Rattle.rules.specs.declared.record.NodeRecord.{NodeRecord}
 use Rattle.rules.specs.declared.fault.ReadFault.{ReadFault}
@@ -15,6 +15,11 @@ number4 a b c d = ((a * 256 + b) * 256 + c) * 256 + d
 -- so many bytes, and what follows them
 abbrev pub part_of : ℕ → List ℕ → Option (List ℕ × List ℕ)
 part_of n xs = cond (nat_le n (length xs)) (Some (take n xs, drop n xs)) None
+
+-- what is taken off the front of some bytes, if they reach that far, and what follows it
+abbrev pub Takes : {X : Type 0} → Option (X × List ℕ) → Option X → List ℕ → Type 0
+Takes o None rest = o ≡ None
+Takes o (Some x) rest = o ≡ Some (x, rest)
 
 -- a field of one byte, if it is announced, and what follows it; else 0
 abbrev pub byte_of : Bool → List ℕ → Option (ℕ × List ℕ)

@@ -1,7 +1,7 @@
 // The fields of a node, read one after the other.
 ghost use Rattle.std.specs.Prelude.{◌≡◌, Some, None, MatchOption};
 ghost use Rattle.rules.specs.Map.{is_set, bit_of, width_of};
-ghost use Rattle.rules.specs.Bytes.{part_of, byte_of, field_of, fields_of};
+ghost use Rattle.rules.specs.Bytes.{Takes, part_of, byte_of, field_of, fields_of};
 
 use crate::map::{Field, announces};
 use crate::record::{NodeRecord, SlotField};
@@ -29,7 +29,7 @@ impl<'a> Fields<'a> {
     }
 
     fn byte(&mut self, field: Field) -> Option<u8>
-        ensures byte { MatchOption result (byte_of (is_set self.old.map (bit_of field)) self.old.rest.now ≡ None) (λ b. byte_of (is_set self.old.map (bit_of field)) self.old.rest.now ≡ Some (b, self.new.rest.now)) }
+        ensures byte { Takes (byte_of (is_set self.old.map (bit_of field)) self.old.rest.now) result self.new.rest.now }
         ensures map { self.new.map ≡ self.old.map }
     {
         match self.part(field, 1)? {
@@ -39,7 +39,7 @@ impl<'a> Fields<'a> {
     }
 
     fn slot(&mut self, field: Field) -> Option<SlotField>
-        ensures slot { MatchOption result (field_of (is_set self.old.map (bit_of field)) self.old.rest.now ≡ None) (λ f. field_of (is_set self.old.map (bit_of field)) self.old.rest.now ≡ Some (f, self.new.rest.now)) }
+        ensures slot { Takes (field_of (is_set self.old.map (bit_of field)) self.old.rest.now) result self.new.rest.now }
         ensures map { self.new.map ≡ self.old.map }
     {
         match self.part(field, 5)? {

@@ -1,6 +1,6 @@
 // Which records the layout allows, and the node that each stands for.
 ghost use Rattle.std.specs.Prelude.{◌≡◌};
-ghost use Rattle.rules.specs.Layout.{var_of, slot_of, pattern_of, is_constant, has_constants, patterned, prefix_of, pair_of, binder_of, filter_of, of_kind, decoded};
+ghost use Rattle.rules.specs.Layout.{slot_of, pattern_of, is_constant, has_constants, patterned, prefix_of, pair_of, binder_of, filter_of, of_kind, decoded};
 
 use crate::kind::Kind;
 use crate::map::{Field, announces};
@@ -16,12 +16,6 @@ const BINDER_MAP: u8 = Field::Kind as u8 + Field::First as u8 + Field::Variable 
 
 const MOST_TYPE: u8 = 63;
 
-fn var(n: u32) -> Option<Var>
-    ensures { result ≡ var_of n }
-{
-    Var::try_from(n).ok()
-}
-
 fn slot(there: bool, f: SlotField) -> Option<Slot>
     ensures { result ≡ slot_of there f }
 {
@@ -30,7 +24,7 @@ fn slot(there: bool, f: SlotField) -> Option<Slot>
     }
     match f.tag {
         0 => Some(Slot::Constant(f.number)),
-        1 => var(f.number).map(Slot::Variable),
+        1 => Var::try_from(f.number).ok().map(Slot::Variable),
         _ => None,
     }
 }
@@ -103,7 +97,8 @@ fn binder(r: &NodeRecord, count: u8) -> Option<Node>
     if r.map != BINDER_MAP || r.first >= count {
         return None;
     }
-    Some(Node::Binder(var(u32::from(r.variable))?, r.first))
+    let v = Var::try_from(u32::from(r.variable)).ok()?;
+    Some(Node::Binder(v, r.first))
 }
 
 // The node of a kind that a record stands for.

@@ -15,7 +15,8 @@ impl SlotField {
     pub(crate) const NONE: SlotField = SlotField { tag: 0, number: 0 };
 }
 
-// A node as the bytes lay it out. The bits of the map say which fields are there; another is 0, and counts for nothing.
+// A node as the bytes lay it out. The bits of the map say which fields are there; another is 0, and counts for nothing. The caller lends
+// the records and may write any number, so map, kinds and tags are numbers here: `decode` makes a node of them.
 #[derive(Clone, Copy)]
 pub struct NodeRecord {
     pub map: u8,
