@@ -5,6 +5,7 @@ ghost use Rattle.states.specs.State.{state};
 use crate::tree::Tree;
 use std::alloc::AllocError;
 
+// By hand, since a derived clone of a type that leads back to itself says nothing of what it gives.
 impl Clone for Tree {
     ghost is_clone = { λ t u. state u ≡ state t };
 

@@ -1,7 +1,7 @@
 // States in memory, and what a rule's nodes and patterns make of an event.
 #![tactic(auto)]
 
-pub mod copying;
+mod copying;
 pub mod ending;
 pub mod equality;
 pub mod matching;

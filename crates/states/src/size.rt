@@ -10,10 +10,12 @@ use crate::tree::Tree;
 pub fn remaining(tree: &Tree, limit: usize) -> Option<usize>
     ensures { SomeIff result (cells (state tree.now) ≤ limit) (limit - cells (state tree.now)) }
 {
-    let rest = limit.checked_sub(1)?;
+    if limit == 0 {
+        return None;
+    }
     match tree {
-        Tree::Leaf(_, _) => Some(rest),
-        Tree::Pair(_, left, right) => remaining(right, remaining(left, rest)?),
-        Tree::Binder(_, below) | Tree::Filter(_, below) => remaining(below, rest),
+        Tree::Leaf(_, _) => Some(limit - 1),
+        Tree::Pair(_, left, right) => remaining(right, remaining(left, limit - 1)?),
+        Tree::Binder(_, below) | Tree::Filter(_, below) => remaining(below, limit - 1),
     }
 }

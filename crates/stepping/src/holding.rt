@@ -31,7 +31,7 @@ impl Held {
         }
     }
 
-    // Holds a state, unless it is held.
+    // Holds a state, unless it is held. `Outcomes::add` limits cells as well: one function for both would need a trait with laws for each limit.
     fn hold(&mut self, t: Tree) -> Result<(), StepFault>
         ensures { AddsStates (states_of self.old.states.items) (state t ∷ []) (states_of self.new.states.items) result }
     {

@@ -24,7 +24,8 @@ pub(crate) struct Outcome {
 }
 
 impl Outcome {
-    // The left side has stepped, and the right one remains.
+    // The left side has stepped, and the right one remains. Inlined, since it runs at each pair above a leaf that steps.
+    #[inline(always)]
     pub(crate) fn on_left(self, heap: Global, op: Op, right: &Tree) -> Result<Outcome, AllocError>
         ensures { IfOk result (λ o. outcome_of o ≡ (pair_of op (state self.tree) (state right.now), self.binding)) }
     {
@@ -33,7 +34,8 @@ impl Outcome {
         Ok(Outcome { tree, binding })
     }
 
-    // The right side has stepped, and the left one remains.
+    // The right side has stepped, and the left one remains. Inlined as well.
+    #[inline(always)]
     pub(crate) fn on_right(self, heap: Global, op: Op, left: &Tree) -> Result<Outcome, AllocError>
         ensures { IfOk result (λ o. outcome_of o ≡ (pair_of op (state left.now) (state self.tree), self.binding)) }
     {

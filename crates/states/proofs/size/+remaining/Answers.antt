@@ -3,5 +3,5 @@ use Rattle.states.specs.State.{state}
 use Rattle.states.proofs.Sizes.{cells_pos}
 use Rattle.states.proofs.size.+remaining.Goals as goal
 
-pub returns-in_err-rest : goal.returns-in_err-rest
-returns-in_err-rest t c = rw c.from_residual.ensures (λ fits. c.in_err-rest.ensures (omega (arith, cells_pos (state c.args.tree.now))))
+pub returns-then-limit-eq0 : goal.returns-then-limit-eq0
+returns-then-limit-eq0 t c = λ fits. omega (arith, cells_pos (state c.args.tree.now))
