@@ -35,8 +35,8 @@ mod tests {
     // Both counts, and the verdict.
     type Told = (u32, u32, Verdict);
 
-    // Number, layer, line, place and length of a fault; 0 for what there is not.
-    type Fault = (u8, Layer, usize, usize, usize);
+    // The number of the line that a fault is at, and the refusal.
+    type Fault = (usize, Refusal);
 
     fn told(judgement: &Judgement) -> Told {
         let counts = judgement.counts;
@@ -45,12 +45,25 @@ mod tests {
 
     fn fault(judgement: &Judgement) -> Option<Fault> {
         let found = judgement.fault?;
-        let refusal = found.refusal()?;
-        let (at, len) = match refusal.place {
-            Place::Bytes(span) => (span.at, span.len),
-            _ => (0, 0),
-        };
-        Some((refusal.number, refusal.layer, found.line(), at, len))
+        Some((found.line(), found.refusal()?))
+    }
+
+    // A word that cannot be read.
+    fn word(number: u8, at: usize, len: usize) -> Refusal {
+        let span = Span { at, len };
+        Refusal {
+            number,
+            layer: Layer::Word,
+            place: Place::Bytes(span),
+        }
+    }
+
+    fn nowhere(number: u8, layer: Layer) -> Refusal {
+        Refusal {
+            number,
+            layer,
+            place: Place::Nowhere,
+        }
     }
 
     fn cards(heap: Global, log: &[u8]) -> Result<(Told, Option<Fault>), Fail> {
@@ -90,22 +103,22 @@ mod tests {
         let heap = rt.alloc();
         assert_eq!(rt;
             cards(heap, b"1 c7\n2 c07\n1 c8\n")?,
-            ((1, 1, Open), Some((12, Layer::Word, 2, 7, 3))),
+            ((1, 1, Open), Some((2, word(12, 7, 3)))),
             "a bad word"
         );
         assert_eq!(rt;
             cards(heap, b"1 c7\n\n")?,
-            ((1, 1, Open), Some((12, Layer::Word, 2, 5, 0))),
+            ((1, 1, Open), Some((2, word(12, 5, 0)))),
             "an empty line"
         );
         assert_eq!(rt;
             cards(heap, b"1 c7\n1 c9\n1 s256")?,
-            ((2, 2, Open), Some((13, Layer::Word, 3, 12, 4))),
+            ((2, 2, Open), Some((3, word(13, 12, 4)))),
             "too large"
         );
         assert_eq!(rt;
             cards(heap, b"3 c7\n1 c7\n48\n")?,
-            ((2, 0, Broken), Some((13, Layer::Word, 3, 10, 2))),
+            ((2, 0, Broken), Some((3, word(13, 10, 2)))),
             "a bad line after a break"
         );
         Ok(())
@@ -128,19 +141,19 @@ mod tests {
         let more = entered(heap, 40)?;
         assert_eq!(rt;
             cards(heap, more.as_bytes())?,
-            ((32, 32, Open), Some((32, Layer::Showing, 33, 0, 0))),
+            ((32, 32, Open), Some((33, nowhere(32, Layer::Showing)))),
             "full at the 33rd card"
         );
         let long = vec![in heap; b'\n'; MOST_BYTES + 1]?;
         assert_eq!(rt;
             cards(heap, long.as_slice())?,
-            ((0, 0, MayEnd), Some((14, Layer::Judging, 0, 0, 0))),
+            ((0, 0, MayEnd), Some((0, nowhere(14, Layer::Judging)))),
             "one byte too long"
         );
         let fits = vec![in heap; b'\n'; MOST_BYTES]?;
         assert_eq!(rt;
             cards(heap, fits.as_slice())?,
-            ((0, 0, MayEnd), Some((12, Layer::Word, 1, 0, 0))),
+            ((0, 0, MayEnd), Some((1, word(12, 0, 0)))),
             "as long as can be"
         );
         Ok(())

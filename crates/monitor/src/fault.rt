@@ -3,6 +3,7 @@ ghost use Rattle.std.specs.Prelude.{◌≡◌, Some};
 ghost use Rattle.monitor.specs.Faults.{turned, refusal_of, cause_of};
 
 use refusals::{Layer, Place, Refusal};
+use std::error::Error;
 use std::fmt;
 use stepping::fault::StepFault;
 
@@ -43,6 +44,8 @@ impl fmt::Display for ShowFault {
         })
     }
 }
+
+impl Error for ShowFault {}
 
 impl From<StepFault> for ShowFault {
     ghost from_gives = { λ f r. r ≡ turned f };

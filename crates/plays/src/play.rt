@@ -1,5 +1,4 @@
 // A play: events shown to a monitor, and how many of them it refused.
-use anyhow::anyhow;
 use checking::rule::Rule;
 use events::event::Event;
 use monitor::Monitor;
@@ -24,15 +23,14 @@ impl Play {
         })
     }
 
-    // Shows an event, and counts it where it is refused; want of memory ends the program.
-    pub(crate) fn show<E: Event>(&mut self, event: &E) -> anyhow::Result<()> {
+    // Shows an event, and counts it where it is refused; only want of memory is passed on.
+    pub(crate) fn show<E: Event>(&mut self, event: &E) -> Result<(), ShowFault> {
         match self.monitor.show(self.heap, event) {
-            Ok(()) => Ok(()),
-            Err(ShowFault::Memory) => Err(anyhow!("memory is wanting")),
             Err(ShowFault::Full | ShowFault::Limit) => {
                 self.refused = self.refused.saturating_add(1);
                 Ok(())
             }
+            shown => shown,
         }
     }
 

@@ -3,6 +3,7 @@ ghost use Rattle.std.specs.Prelude.{◌≡◌, Some};
 ghost use Rattle.reporting.specs.Refusals.{refusal_of, cause_of};
 
 use refusals::{Layer, Place, Refusal};
+use std::error::Error;
 use std::fmt;
 
 // The caller's buffer has too little room for the longest report.
@@ -20,6 +21,8 @@ impl fmt::Display for ReportFault {
         })
     }
 }
+
+impl Error for ReportFault {}
 
 impl From<ReportFault> for Refusal {
     ghost from_gives = { λ f r. r ≡ refusal_of f };
