@@ -8,11 +8,12 @@ use interpreter::Interpreter;
 use replies::text::text;
 use std::io::{BufRead, BufReader};
 
-fn run(rt: &HostRuntime) -> anyhow::Result<()> {
+fn main(rt: HostRuntime) -> anyhow::Result<()> {
     let heap = rt.alloc();
     let mut interpreter = Interpreter::new(heap)?;
     let mut input = BufReader::new(heap, rt.stdin())?;
     let mut line = Vec::new(heap);
+    // Not `split`: its lines have lost their ends already, and no clause says what of them.
     for _ in 0..u64::MAX {
         line.clear();
         if input.read_until(b'\n', &mut line)? == 0 {
@@ -25,8 +26,4 @@ fn run(rt: &HostRuntime) -> anyhow::Result<()> {
         }
     }
     Ok(())
-}
-
-fn main(rt: HostRuntime) -> anyhow::Result<()> {
-    run(&rt)
 }

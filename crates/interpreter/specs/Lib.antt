@@ -1,3 +1,4 @@
 pub mod Entries
 pub mod Sizes
+pub mod Stops
 pub mod Answering

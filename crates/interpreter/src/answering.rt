@@ -4,12 +4,13 @@ ghost use Rattle.std.specs.Option.{option_map};
 ghost use Rattle.events.specs.Derivation.{derived};
 ghost use Rattle.commands.specs.Said.{said_by};
 ghost use Rattle.commands.specs.Commands.{parsed_of};
-ghost use Rattle.replies.specs.Told.{told_by, part};
-ghost use Rattle.interpreter.specs.Answering.{Showing, ShowsLine, ShowsRecord, SetsRule, Judging, Holding, part_of, Does, Answers, Opens};
+ghost use Rattle.replies.specs.Told.{told_by};
+ghost use Rattle.interpreter.specs.Answering.{Showing, SetsRule, part_of, Does, ComesTo, Answers, Opens};
 
 use crate::Interpreter;
 use crate::entries::{no_entries, with_entry};
 use crate::sizes::rising_sizes;
+use crate::stop::Stop;
 use checking::rule::Rule;
 use commands::command::{Asked, Command};
 use commands::fault::ParseFault;
@@ -52,9 +53,19 @@ impl Interpreter {
         }
     }
 
-    // Carries out a command. Where memory is wanting everything stays as it was.
+    // Carries out a command, and answers a refusal as a reply. Where memory is wanting everything stays as it was.
     pub fn run(&mut self, heap: Global, command: &Command) -> Result<Reply, AllocError>
         ensures { MatchResult result (λ y. Does self.old (said_by command.now) self.new (told_by y)) (λ _. self.new ≡ self.old) }
+    {
+        match self.carry_out(heap, command) {
+            Ok(reply) => Ok(reply),
+            Err(Stop::Refused(refusal)) => Ok(Reply::Refused(refusal)),
+            Err(Stop::Memory) => Err(AllocError),
+        }
+    }
+
+    fn carry_out(&mut self, heap: Global, command: &Command) -> Result<Reply, Stop>
+        ensures { ComesTo (Does self.old (said_by command.now)) self.old self.new result }
     {
         match command {
             Command::Rule(bytes) => self.set_rule(heap, bytes.as_slice()),
@@ -62,113 +73,57 @@ impl Interpreter {
                 self.entries = with_entry(self.entries, *ty, *entry);
                 Ok(Reply::Done)
             }
-            Command::Line(text) => self.show_line(heap, text.as_slice()),
-            Command::Record(bytes) => self.show_record(heap, bytes.as_slice()),
-            Command::BareLine(text) => self.show_bare_line(heap, text.as_slice()),
-            Command::BareRecord(bytes) => self.show_bare_record(heap, bytes.as_slice()),
+            Command::Line(text) => self.show_derived(heap, Line::read(text.as_slice())?),
+            Command::Record(bytes) => self.show_derived(heap, Record::read(bytes.as_slice())?),
+            Command::BareLine(text) => self.show(heap, &Line::read(text.as_slice())?),
+            Command::BareRecord(bytes) => self.show(heap, &Record::read(bytes.as_slice())?),
             Command::Counts => Ok(Reply::Counts(self.monitor.counts())),
             Command::Verdict => Ok(Reply::Verdict(self.monitor.verdict())),
-            Command::Held => self.sizes(heap),
-            Command::Judge(log) => self.judgement(heap, log.as_slice()),
-            Command::Excerpt(asked) => part_asked(heap, asked),
+            Command::Held => Ok(Reply::Held(rising_sizes(heap, self.monitor.held())?)),
+            Command::Judge(log) => {
+                let judgement = judge(heap, &self.rule, &self.entries, log.as_slice())?;
+                Ok(Reply::Judged(judgement))
+            }
+            Command::Excerpt(asked) => Ok(Reply::Part(part_asked(heap, asked)?)),
             Command::Help => Ok(Reply::Help),
         }
     }
 
     // Puts a rule in force, and begins a new monitor on it.
-    fn set_rule(&mut self, heap: Global, bytes: &[u8]) -> Result<Reply, AllocError>
-        ensures { MatchResult result (λ y. SetsRule self.old bytes.now self.new (told_by y)) (λ _. self.new ≡ self.old) }
+    fn set_rule(&mut self, heap: Global, bytes: &[u8]) -> Result<Reply, Stop>
+        ensures { ComesTo (SetsRule self.old bytes.now) self.old self.new result }
     {
-        match load(bytes) {
-            Ok(rule) => {
-                let monitor = Monitor::begin(heap, &rule)?;
-                self.monitor = monitor;
-                self.rule = rule;
-                Ok(Reply::Rule(rule.count()))
-            }
-            Err(fault) => Ok(Reply::Refused(fault.refusal())),
-        }
+        let rule = load(bytes)?;
+        self.monitor = Monitor::begin(heap, &rule)?;
+        self.rule = rule;
+        Ok(Reply::Rule(rule.count()))
     }
 
-    fn show_line(&mut self, heap: Global, text: &[u8]) -> Result<Reply, AllocError>
-        ensures { MatchResult result (λ y. ShowsLine self.old (λ m. derived m self.old.entries) text.now self.new (told_by y)) (λ _. self.new ≡ self.old) }
+    // Shows an event with the further types that the entries give it.
+    fn show_derived<E: Event + Drop>(&mut self, heap: Global, below: E) -> Result<Reply, Stop>
+        ensures { ComesTo (Showing self.old (derived (E.Event.meaning below) self.old.entries)) self.old self.new result }
     {
-        match Line::read(text) {
-            Ok(below) => {
-                let entries = self.entries;
-                self.show(heap, &Derived { below, entries })
-            }
-            Err(fault) => Ok(Reply::Refused(fault.refusal())),
-        }
-    }
-
-    fn show_record(&mut self, heap: Global, bytes: &[u8]) -> Result<Reply, AllocError>
-        ensures { MatchResult result (λ y. ShowsRecord self.old (λ m. derived m self.old.entries) bytes.now self.new (told_by y)) (λ _. self.new ≡ self.old) }
-    {
-        match Record::read(bytes) {
-            Ok(below) => {
-                let entries = self.entries;
-                self.show(heap, &Derived { below, entries })
-            }
-            Err(fault) => Ok(Reply::Refused(fault.refusal())),
-        }
-    }
-
-    fn show_bare_line(&mut self, heap: Global, text: &[u8]) -> Result<Reply, AllocError>
-        ensures { MatchResult result (λ y. ShowsLine self.old (λ m. m) text.now self.new (told_by y)) (λ _. self.new ≡ self.old) }
-    {
-        match Line::read(text) {
-            Ok(line) => self.show(heap, &line),
-            Err(fault) => Ok(Reply::Refused(fault.refusal())),
-        }
-    }
-
-    fn show_bare_record(&mut self, heap: Global, bytes: &[u8]) -> Result<Reply, AllocError>
-        ensures { MatchResult result (λ y. ShowsRecord self.old (λ m. m) bytes.now self.new (told_by y)) (λ _. self.new ≡ self.old) }
-    {
-        match Record::read(bytes) {
-            Ok(record) => self.show(heap, &record),
-            Err(fault) => Ok(Reply::Refused(fault.refusal())),
-        }
+        let entries = self.entries;
+        self.show(heap, &Derived { below, entries })
     }
 
     // Shows an event of any kind.
-    fn show<E: Event>(&mut self, heap: Global, event: &E) -> Result<Reply, AllocError>
-        ensures { MatchResult result (λ y. Showing self.old (E.meaning event.now) self.new (told_by y)) (λ _. self.new ≡ self.old) }
+    fn show<E: Event>(&mut self, heap: Global, event: &E) -> Result<Reply, Stop>
+        ensures { ComesTo (Showing self.old (E.meaning event.now)) self.old self.new result }
     {
-        match self.monitor.show(heap, event) {
-            Ok(()) => Ok(Reply::Shown),
-            Err(fault) => match fault.refusal() {
-                Some(refusal) => Ok(Reply::Refused(refusal)),
-                None => Err(AllocError),
-            },
-        }
-    }
-
-    // How large the states are that are held.
-    fn sizes(&self, heap: Global) -> Result<Reply, AllocError>
-        ensures { IfOk result (λ y. Holding self.now self.now (told_by y)) }
-    {
-        Ok(Reply::Held(rising_sizes(heap, self.monitor.held())?))
-    }
-
-    // Judges a log by the rule and the entries in force.
-    fn judgement(&self, heap: Global, log: &[u8]) -> Result<Reply, AllocError>
-        ensures { IfOk result (λ y. Judging self.now log.now self.now (told_by y)) }
-    {
-        Ok(Reply::Judged(judge(heap, &self.rule, &self.entries, log)?))
+        self.monitor.show(heap, event)?;
+        Ok(Reply::Shown)
     }
 }
 
 // The bytes that a fault lies in.
-fn part_asked(heap: Global, asked: &Asked) -> Result<Reply, AllocError>
-    ensures { IfOk result (λ y. told_by y ≡ part (part_of asked.now.rule.items asked.now.log.items asked.now.number asked.now.layer asked.now.span)) }
+fn part_asked(heap: Global, asked: &Asked) -> Result<Vec<u8>, AllocError>
+    ensures { IfOk result (λ v. v.items ≡ part_of asked.now.rule.items asked.now.log.items asked.now.number asked.now.layer asked.now.span) }
 {
     let fault = Refusal {
-        number: asked.number.min(255) as u8,
+        number: u8::try_from(asked.number).unwrap_or(u8::MAX),
         layer: asked.layer,
         place: Place::Bytes(asked.span),
     };
-    let bytes = excerpt(asked.rule.as_slice(), asked.log.as_slice(), &fault);
-    Ok(Reply::Part(bytes.to_vec(heap)?))
+    excerpt(asked.rule.as_slice(), asked.log.as_slice(), &fault).to_vec(heap)
 }

@@ -8,6 +8,7 @@ use monitor::Monitor;
 pub mod answering;
 mod entries;
 mod sizes;
+mod stop;
 
 // The rule in force, the entries that events are shown under, and the monitor that they are shown to.
 #[derive(Drop)]

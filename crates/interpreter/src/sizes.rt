@@ -12,21 +12,14 @@ use std::alloc::{AllocError, Global};
 fn size(tree: &Tree) -> usize
     ensures { result ≡ size_of (state tree.now) }
 {
-    match remaining(tree, usize::MAX) {
-        Some(rest) => usize::MAX - rest,
-        None => usize::MAX,
-    }
+    usize::MAX - remaining(tree, usize::MAX).unwrap_or(0)
 }
 
 // How many cells each of some states has, in their order.
 fn sizes_of(heap: Global, trees: &[Tree]) -> Result<Vec<usize>, AllocError>
     ensures { IfOk result (λ v. v.items ≡ sizes_of (states trees.now)) }
 {
-    let mut sizes = Vec::new(heap);
-    for tree in trees {
-        sizes.push(size(tree))?;
-    }
-    Ok(sizes)
+    trees.iter().map(size).collect(heap)
 }
 
 // The same in rising order.
