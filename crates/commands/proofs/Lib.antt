@@ -1,7 +1,5 @@
-pub mod Cuts
 pub mod Digits
 pub mod Exact
 pub mod Named
 pub mod Pairs
 pub mod Read
-pub mod Values

@@ -8,14 +8,15 @@ use Rattle.events.specs.declared.types.TypeSet.{TypeSet}
 use Rattle.refusals.specs.Options.{on}
 use Rattle.refusals.specs.declared.Layer.{Layer}
 use Rattle.refusals.specs.declared.Span.{Span}
+use Rattle.tokens.specs.Numerals.{number_of}
+use Rattle.tokens.specs.Pieces.{before, after}
 use Rattle.commands.specs.declared.command.Usage.{Usage}
 use Rattle.commands.specs.declared.command.Usage.TheVariants.{Rule, Entry, Line, Record, Bare, Counts, Verdict, Held, Judge, Excerpt, Help, Unknown}
 use Rattle.commands.specs.Forms.{form_of}
 use Rattle.commands.specs.Hex.{unhexed, set_of}
 use Rattle.commands.specs.Layers.{layer_named}
-use Rattle.commands.specs.Numerals.{number_of}
 use Rattle.commands.specs.Said.{Said, rule, entry, text_line, binary_record, bare_line, bare_record, counts, verdict, held, judge, excerpt, help, Told, nothing, malformed, says}
-use Rattle.commands.specs.Words.{before, after, words_in, first_of, only_of}
+use Rattle.commands.specs.Words.{space, words_in, first_of, only_of}
 
 -- the first word as something is read from it, and then what that and the words after it say
 abbrev pub first_as : {X Y : Type 0} → (List ℕ → Option X) → List (List ℕ) → (X → List (List ℕ) → Option Y) → Option Y
@@ -60,8 +61,8 @@ excerpt_of ws = first_as unhexed ws (λ r vs. first_as unhexed vs (λ l us. opti
 -- `bare`, and then `line TEXT` or `record HEX`
 abbrev pub bare_of : List ℕ → Option Said
 bare_of xs =
-    cond (bytes_eq (before xs) (codes "line")) (option_map bare_line (after xs))
-    (cond (bytes_eq (before xs) (codes "record")) (option_map bare_record (hex_of (words_in (after xs)))) None)
+    cond (bytes_eq (before space xs) (codes "line")) (option_map bare_line (after space xs))
+    (cond (bytes_eq (before space xs) (codes "record")) (option_map bare_record (hex_of (words_in (after space xs)))) None)
 
 -- what a command of a form says by what follows its first word; TEXT is all that follows the space
 abbrev pub said_in : Usage → Option (List ℕ) → Option Said
@@ -89,4 +90,4 @@ command_of u r = or_form u (said_in u r)
 -- an empty line and one that begins with `#` tell nothing
 abbrev pub parsed_of : List ℕ → Told
 parsed_of [] = nothing
-parsed_of (x ∷ xs) = cond (x == 35) nothing (command_of (form_of (before (x ∷ xs))) (after (x ∷ xs)))
+parsed_of (x ∷ xs) = cond (x == 35) nothing (command_of (form_of (before space (x ∷ xs))) (after space (x ∷ xs)))

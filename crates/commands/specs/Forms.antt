@@ -5,7 +5,8 @@ use Rattle.std.specs.Option.{unwrap_or}
 use Rattle.std.specs.Str.{bytes_eq}
 use Rattle.commands.specs.declared.command.Usage.{Usage}
 use Rattle.commands.specs.declared.command.Usage.TheVariants.{Rule, Entry, Line, Record, Bare, Counts, Verdict, Held, Judge, Excerpt, Help, Unknown}
-use Rattle.commands.specs.Words.{before}
+use Rattle.tokens.specs.Pieces.{before}
+use Rattle.commands.specs.Words.{space}
 
 -- HEX is an even number of hexadecimal digits, or `-` for none; HEX16 is sixteen of them
 abbrev pub form_text : Usage → List ℕ
@@ -27,7 +28,7 @@ forms = Rule ∷ Entry ∷ Line ∷ Record ∷ Bare ∷ Counts ∷ Verdict ∷ H
 
 -- the word that a form begins with
 abbrev pub form_word : Usage → List ℕ
-form_word u = before (form_text u)
+form_word u = before space (form_text u)
 
 -- the form that begins with a word
 abbrev pub form_of : List ℕ → Usage

@@ -1,6 +1,5 @@
 pub mod Hex
 pub mod Layers
-pub mod Numerals
 pub mod Words
 pub mod Said
 pub mod Read

@@ -1,29 +1,13 @@
 -- Words: what stands between single spaces.
-use Rattle.std.specs.Prelude.{ℕ, cond, List, [], ◌∷◌, Some, None, Option, ◌==◌}
+use Rattle.std.specs.Prelude.{ℕ, List, [], ◌∷◌, Some, None, Option}
+use Rattle.tokens.specs.Pieces.{pieces_in}
 
--- what stands before the first space
-abbrev pub before : List ℕ → List ℕ
-before [] = []
-before (x ∷ xs) = cond (x == 32) [] (x ∷ before xs)
+abbrev pub space : ℕ
+space = 32
 
--- what follows it, if there is one
-abbrev pub after : List ℕ → Option (List ℕ)
-after [] = None
-after (x ∷ xs) = cond (x == 32) (Some xs) (after xs)
-
-abbrev pub longer : ℕ → List (List ℕ) → List (List ℕ)
-longer x [] = (x ∷ []) ∷ []
-longer x (w ∷ ws) = (x ∷ w) ∷ ws
-
--- one word more than there are spaces; a word may be empty
-abbrev pub words : List ℕ → List (List ℕ)
-words [] = [] ∷ []
-words (x ∷ xs) = cond (x == 32) ([] ∷ words xs) (longer x (words xs))
-
--- the words of what follows a space, if there is one
+-- the words of what follows a space, if there is one: one more than there are spaces; a word may be empty
 abbrev pub words_in : Option (List ℕ) → List (List ℕ)
-words_in None = []
-words_in (Some xs) = words xs
+words_in r = pieces_in space r
 
 -- the first word, and those after it
 abbrev pub first_of : List (List ℕ) → Option (List ℕ × List (List ℕ))

@@ -11,11 +11,11 @@ use crate::command::{Asked, Command};
 use crate::fault::TextFault;
 use crate::hex::{set, unhex};
 use crate::layers::layer_named;
-use crate::numbers::number;
 use crate::words::Words;
 use events::derived::{Entry, FIRST_DERIVED, LAST_DERIVED};
 use refusals::{Layer, Span};
 use std::alloc::Global;
+use tokens::numeral::number;
 
 // HEX: the bytes that a word stands for, if there is one.
 pub(crate) fn hex(heap: Global, word: Option<&[u8]>) -> Result<Vec<u8>, TextFault>

@@ -2,10 +2,11 @@
 ghost use Rattle.std.specs.Prelude.{◌≡◌, Some};
 ghost use Rattle.commands.specs.Forms.{form_text, form_word};
 
-use crate::words::cut;
+use crate::words::SPACE;
 use events::derived::Entry;
 use refusals::{Layer, Span};
 use std::fmt;
+use tokens::pieces::cut;
 
 // A refusal whose bytes are asked for: the rule and the log that it is about, its number, its layer and its place.
 #[derive(Drop)]
@@ -92,7 +93,7 @@ impl Usage {
     pub(crate) fn word(self) -> &'static [u8]
         ensures { result.now ≡ form_word self }
     {
-        cut(self.text().as_bytes()).0
+        cut(self.text().as_bytes(), SPACE).0
     }
 }
 

@@ -6,7 +6,6 @@ pub mod command;
 pub mod fault;
 pub mod hex;
 pub mod layers;
-mod numbers;
 pub mod parse;
 #[cfg(test)]
 mod tests;

@@ -10,8 +10,9 @@ ghost use Rattle.commands.specs.Said.{said_by, IfTold};
 use crate::arguments::{entry, excerpt, hex};
 use crate::command::{Command, FORMS, Usage};
 use crate::fault::{ParseFault, TextFault};
-use crate::words::{Words, cut};
+use crate::words::{SPACE, Words};
 use std::alloc::Global;
+use tokens::pieces::cut;
 
 // The form that begins with a word.
 fn form_of(word: &[u8]) -> Usage
@@ -35,7 +36,7 @@ fn text(heap: Global, rest: Option<&[u8]>) -> Result<Vec<u8>, TextFault>
 fn bare(heap: Global, rest: Option<&[u8]>) -> Result<Command, TextFault>
     ensures { IfRead said_by result (λ o. o ≡ on (option_map (λ x. x.now) rest.entry) bare_of) }
 {
-    let (word, rest) = cut(rest.ok_or(TextFault::Malformed)?);
+    let (word, rest) = cut(rest.ok_or(TextFault::Malformed)?, SPACE);
     match word {
         b"line" => text(heap, rest).map(Command::BareLine),
         b"record" => hex(heap, Words::of(rest).only()).map(Command::BareRecord),
@@ -71,7 +72,7 @@ pub fn parse(heap: Global, line: &[u8]) -> Result<Option<Command>, ParseFault>
     if let [] | [b'#', ..] = line {
         return Ok(None);
     }
-    let (word, rest) = cut(line);
+    let (word, rest) = cut(line, SPACE);
     let form = form_of(word);
     command(heap, form, rest)
         .map(Some)

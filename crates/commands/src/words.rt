@@ -3,26 +3,14 @@ ghost use Rattle.std.specs.Prelude.{◌≡◌, ok_or, List, ℕ};
 ghost use Rattle.std.specs.Iterator.{YieldsFirstRef, item_count};
 ghost use Rattle.std.specs.Option.{option_map};
 ghost use Rattle.commands.specs.Commands.{alone};
-ghost use Rattle.commands.specs.Words.{before, after, words_in, only_of};
+ghost use Rattle.commands.specs.Words.{words_in, only_of};
 ghost use Rattle.commands.specs.declared.fault.TextFault.TheVariants.{Malformed};
 
 use crate::fault::TextFault;
 use std::marker::Model;
+use tokens::pieces::cut;
 
-const SPACE: u8 = b' ';
-
-// What stands before the first space, and what follows it, if there is one.
-pub(crate) fn cut(bytes: &[u8]) -> (&[u8], Option<&[u8]>)
-    ensures first { result.0.now ≡ before bytes.now }
-    ensures rest { option_map (λ x. x.now) result.1 ≡ after bytes.now }
-{
-    for (i, b) in bytes.iter().enumerate() {
-        if *b == SPACE {
-            return (&bytes[0..i], Some(&bytes[i + 1..]));
-        }
-    }
-    (bytes, None)
-}
+pub(crate) const SPACE: u8 = b' ';
 
 // The words that are still to be read.
 #[derive(Drop)]
@@ -72,7 +60,7 @@ impl<'a> Iterator for Words<'a> {
     ghost remaining = { item_count (λ x. x) };
 
     fn next(&mut self) -> Option<&'a [u8]> {
-        let (word, rest) = cut(self.rest?);
+        let (word, rest) = cut(self.rest?, SPACE);
         self.rest = rest;
         Some(word)
     }
