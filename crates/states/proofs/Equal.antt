@@ -56,11 +56,15 @@ number_same (Some j) (Some k) = refl
 both : {a b c d : Bool} → a ≡ b → c ≡ d → (a && c) ≡ (b && d)
 both p q = ap₂ (λ (x y : Bool). x && y) p q
 
+-- the derived equality of substitutions is that of the calculus
+pub numbers_same : (σ τ : Substitution) →
+    (option_eq eqb σ.v0 τ.v0 && (option_eq eqb σ.v1 τ.v1 && (option_eq eqb σ.v2 τ.v2 && option_eq eqb σ.v3 τ.v3))) ≡ same_numbers σ τ
+numbers_same σ τ =
+    both (number_same σ.v0 τ.v0) (both (number_same σ.v1 τ.v1) (both (number_same σ.v2 τ.v2) (number_same σ.v3 τ.v3)))
+
 -- the derived equality of trees is that of their states
 pub tree_same : (a b : Tree) → ghosts.eq a b ≡ same_state (state a) (state b)
-tree_same (Leaf n σ) (Leaf m τ) = is (Leaf n σ) (Leaf m τ) ∙ 
-    ap (λ (c : Bool). eqb n m && c)
-    (both (number_same σ.v0 τ.v0) (both (number_same σ.v1 τ.v1) (both (number_same σ.v2 τ.v2) (number_same σ.v3 τ.v3))))
+tree_same (Leaf n σ) (Leaf m τ) = is (Leaf n σ) (Leaf m τ) ∙ ap (λ (c : Bool). eqb n m && c) (numbers_same σ τ)
 tree_same (Leaf n σ) (Pair' o p l q r) = is (Leaf n σ) (Pair' o p l q r)
 tree_same (Leaf n σ) (Binder' v p t) = is (Leaf n σ) (Binder' v p t)
 tree_same (Leaf n σ) (Filter' m p t) = is (Leaf n σ) (Filter' m p t)
