@@ -1,11 +1,11 @@
 -- The lines of a log, one after the other, and what is told at the end.
-use Rattle.std.proofs.Common.{◌≡◌, ℕ, ◌+◌, ◌<◌, ◌≤◌, List, [], ◌∷◌, ◌++◌, length, IsErrAnd, Some, None, Ok, Err, Option, Result, sym, subst, arith}
+use Rattle.std.proofs.Common.{◌≡◌, ℕ, ◌+◌, ◌<◌, ◌≤◌, List, [], ◌∷◌, ◌++◌, length, IsErrAnd, Some, None, Ok, Err, Option, Result, sym, ap, subst, arith}
 use Rattle.std.specs.Result.{result_err}
 use Rattle.std.proofs.lemmas.List.{length-append}
 use Rattle.events.specs.declared.derived.Entries.{Entries}
 use Rattle.lines.specs.declared.log.LogLine.{LogLine}
-use Rattle.lines.specs.Logs.{lines_of, first, others}
-use Rattle.lines.proofs.Numbered.{lines_few, first_line}
+use Rattle.lines.specs.Logs.{lines_of}
+use Rattle.lines.proofs.Numbered.{lines_few}
 use Rattle.calculus.specs.Vocabulary.{Rule, Meaning}
 use Rattle.calculus.specs.Runs.{begin}
 use Rattle.monitor.specs.declared.Monitor.{Monitor}
@@ -15,7 +15,7 @@ use Rattle.judging.specs.declared.fault.JudgeFault.TheVariants.{TooLong}
 use Rattle.judging.specs.declared.judgement.Judgement.{Judgement}
 use Rattle.judging.specs.Judging.{most_bytes, event_of, Goes, at_the_end, one_more, Stops, too_long, line_by_line, Judges}
 use Rattle.judging.specs.Watching.{Watches, Tells, Passes, Further, Went}
-use Rattle.judging.proofs.Watched.{fresh, on_rule, so_many}
+use Rattle.judging.proofs.Watched.{fresh, so_many}
 
 -- a monitor while lines are still to come: what they lead to is what the whole log leads to
 pub record Under (r : Rule) (en : Entries) (log : List ℕ) (m : Monitor) (ls : List LogLine) : Type 0 where
@@ -28,34 +28,34 @@ pub before : (en : Entries) (log : List ℕ) (m : Monitor) (ls : List LogLine) �
 before en log m ls q e =
     subst (Under m.rule en log m) (sym e) (record { es = []; watches = fresh m q; rest = λ shown o g. g; few = omega (arith, lines_few log) })
 
-module _ (r : Rule) (en : Entries) (log : List ℕ) (m : Monitor) where
-  pub next_line : (ls rest : List LogLine) (l : LogLine) → Some l ≡ first ls → rest ≡ others ls → Under r en log m ls → Under r en log m (l ∷ rest)
-  next_line ls rest l e q u = subst (Under r en log m) (first_line ls rest l e q) u
+-- no line of a log that is too long is shown
+pub refused_whole : (en : Entries) (log : List ℕ) (m : Monitor) → run_of m ≡ begin → most_bytes < length log → Went m.rule en log m (Err TooLong)
+refused_whole en log m q h = record { shown = []; stops = too_long h; watches = fresh m q }
 
-  module _ (l : LogLine) (ls : List LogLine) (u : Under r en log m (l ∷ ls)) where
-    pub room : length log ≤ 65536 → m.shown < 1000000
-    room h = omega (arith, so_many r u.es m u.watches, u.few)
+module _ {r : Rule} {en : Entries} {log : List ℕ} {m : Monitor} {ls : List LogLine} (u : Under r en log m ls) where
+  pub ended : length log ≤ most_bytes → ls ≡ [] → Went r en log m (Ok tt)
+  ended h e = record { shown = u.es; stops = line_by_line h (u.rest u.es None (subst (λ ks. Goes r en log u.es ks u.es None) (sym e) at_the_end)); watches = u.watches }
 
-    pub again : (n : Monitor) → Further r en log l u.es n → Under r en log n ls
-    again n f = record {
+  module _ {l : LogLine} {rest : List LogLine} (e : ls ≡ l ∷ rest) where
+    pub room : length log ≤ most_bytes → m.shown < 1000000
+    room h = omega (arith, so_many r u.es m u.watches, u.few, ap length e)
+
+    -- what judging comes to from this line on is what the whole log comes to
+    onward : (shown : List Meaning) (o : Option JudgeFault) → Goes r en log u.es (l ∷ rest) shown o → Goes r en log [] (lines_of log) shown o
+    onward shown o g = u.rest shown o (subst (λ ks. Goes r en log u.es ks shown o) (sym e) g)
+
+    pub again : {n : Monitor} → Further r en log l u.es n → Under r en log n rest
+    again f = record {
       es = u.es ++ (event_of en f.line ∷ []);
       watches = f.watches;
-      rest = λ shown o g. u.rest shown o (one_more f.reads f.room g);
-      few = omega (arith, length-append u.es (event_of en f.line ∷ []), u.few);
+      rest = λ shown o g. onward shown o (one_more f.reads f.room g);
+      few = omega (arith, length-append u.es (event_of en f.line ∷ []), u.few, ap length e);
     }
 
     pub stopped : length log ≤ most_bytes → (n : Monitor) (o : Result (Unit {0}) JudgeFault) (f : JudgeFault) → Passes r en log l u.es n (Err f) → IsErrAnd o (λ y. y ≡ f) → Went r en log n o
-    stopped h n (Ok v) f p e = absurd e
-    stopped h n (Err y) f p e =
-        subst (λ (z : JudgeFault). Went r en log n (Err z)) (sym e) (record { shown = u.es; stops = line_by_line h (u.rest u.es (Some f) (p.1 ls)); watches = p.0 })
-
-  pub ended : length log ≤ most_bytes → (ls : List LogLine) → None ≡ first ls → Under r en log m ls → Went r en log m (Ok tt)
-  ended h [] e u = record { shown = u.es; stops = line_by_line h (u.rest u.es None at_the_end); watches = u.watches }
-  ended h (l ∷ ls) e u = absurd (let z : ◌≡◌ {A = ℕ} 0 1 = cc in omega arith)
-
-  -- no line of a log that is too long is shown
-  pub refused_whole : run_of m ≡ begin → r ≡ m.rule → most_bytes < length log → Went r en log m (Err TooLong)
-  refused_whole b q h = record { shown = []; stops = too_long h; watches = on_rule m.rule r [] m (sym q) (fresh m b) }
+    stopped h n (Ok v) f p d = absurd d
+    stopped h n (Err y) f p d =
+        subst (λ (z : JudgeFault). Went r en log n (Err z)) (sym d) (record { shown = u.es; stops = line_by_line h (onward u.es (Some f) (p.1 rest)); watches = p.0 })
 
 -- what was told is the judgement
 pub judged : (r : Rule) (en : Entries) (log : List ℕ) (m n : Monitor) (o : Result (Unit {0}) JudgeFault) (j : Judgement) → Begins r m → Went m.rule en log n o

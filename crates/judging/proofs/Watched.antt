@@ -30,9 +30,6 @@ event_in d = derived (single d.below.fields) d.entries
 pub fresh : (m : Monitor) → run_of m ≡ begin → Watches m.rule [] m
 fresh m q = record { calls = []; rule = refl; used = subst (Made m.rule []) (sym q) begun; events = refl }
 
-pub on_rule : (r s : Rule) (es : List Meaning) (m : Monitor) → r ≡ s → Watches r es m → Watches s es m
-on_rule r s es m q w = subst (λ (x : Rule). Watches x es m) q w
-
 module _ (r : Rule) (es : List Meaning) (m : Monitor) (w : Watches r es m) where
   -- the monitor holds what the events lead to
   held : run (graph_of r) es begin ≡ run_of m

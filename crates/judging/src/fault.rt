@@ -8,7 +8,7 @@ use monitor::fault::ShowFault;
 use refusals::{Layer, Place, Refusal};
 use std::fmt;
 
-#[derive(Clone, Copy)]
+#[derive(Clone, Copy, PartialEq, Eq, Debug)]
 pub enum JudgeFault {
     // The log has more bytes than are judged.
     TooLong,
@@ -31,7 +31,7 @@ impl JudgeFault {
                 layer: Layer::Judging,
                 place: Place::Nowhere,
             }),
-            JudgeFault::BadLine(fault) => Some(fault.refusal()),
+            JudgeFault::BadLine(fault) => Some(Refusal::from(*fault)),
             JudgeFault::Full(_) => ShowFault::Full.refusal(),
             JudgeFault::Memory(_) => ShowFault::Memory.refusal(),
         }

@@ -64,8 +64,7 @@ impl Judging<'_> {
         if self.log.len() > MOST_BYTES {
             return Err(JudgeFault::TooLong);
         }
-        let mut left = Lines::of(self.log);
-        while let Some(line) = left.next() {
+        for line in Lines::of(self.log) {
             self.show_line(monitor, line)?;
         }
         Ok(())

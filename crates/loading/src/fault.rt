@@ -28,8 +28,8 @@ impl From<RuleFault> for Refusal {
 
     fn from(fault: RuleFault) -> Refusal {
         match fault {
-            RuleFault::Read(fault) => fault.refusal(),
-            RuleFault::Check(fault) => fault.refusal(),
+            RuleFault::Read(fault) => fault.into(),
+            RuleFault::Check(fault) => fault.into(),
         }
     }
 }
@@ -39,8 +39,8 @@ impl fmt::Display for RuleFault {
 
     fn fmt<W: fmt::Write>(&self, f: &mut fmt::Formatter<W>) -> fmt::Result {
         match self {
-            RuleFault::Read(fault) => f.write_str(fault.cause()),
-            RuleFault::Check(fault) => f.write_str(fault.cause()),
+            RuleFault::Read(fault) => fault.fmt(f),
+            RuleFault::Check(fault) => fault.fmt(f),
         }
     }
 }

@@ -19,7 +19,7 @@ pub fn load(bytes: &[u8]) -> Result<Rule, RuleFault>
     load_by(bytes, &mut [NodeRecord::BLANK; MOST_NODES])
 }
 
-// The same, by a list of node records, which any rule fits in.
+// The same, by a list of node records, which any rule fits in: reading fills records that its caller lends.
 fn load_by(bytes: &[u8], list: &mut [NodeRecord; MOST_NODES]) -> Result<Rule, RuleFault>
     ensures { Loads bytes.now result }
 {

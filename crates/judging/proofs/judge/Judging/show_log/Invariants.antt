@@ -1,10 +1,6 @@
-use Rattle.std.proofs.Common.{length}
 use Rattle.lines.specs.Logs.{left}
 use Rattle.judging.proofs.Lines.{Under}
 use Rattle.judging.proofs.judge.Judging.show_log.Given as goal
 
 abbrev pub invariant-loop-line : goal.invariant-loop-line
-invariant-loop-line l = Under l.initial.monitor.rule l.self.entries.now l.self.log.now l.monitor (left l.left)
-
-abbrev pub decreases-loop-line : goal.decreases-loop-line
-decreases-loop-line l = length (left l.left)
+invariant-loop-line l = Under l.initial.monitor.rule l.self.entries.now l.self.log.now l.monitor (left l.line-iterator)
