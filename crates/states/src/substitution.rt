@@ -1,7 +1,6 @@
 // Numbers for variables, as the calculus has them.
-ghost use Rattle.std.specs.Prelude.{◌≡◌, if◌then◌else◌};
-ghost use Rattle.calculus.specs.Vocabulary.{None as no_number, same as is_same};
-ghost use Rattle.calculus.specs.Numbers.{lookup as lookup_of, tabulate, restrict as restrict_to, without as without_of, assign as assign_to, or_else, union as union_of, compatible_at, compatible as compatible_with};
+ghost use Rattle.std.specs.Prelude.{◌≡◌};
+ghost use Rattle.calculus.specs.Numbers.{lookup as lookup_of, restrict as restrict_to, without as without_of, assign as assign_to, union as union_of, compatible_at, compatible as compatible_with};
 ghost use Rattle.calculus.specs.Graphs.{graph_of};
 
 use checking::rule::Rule;
@@ -50,21 +49,11 @@ pub(crate) fn restrict(numbers: Substitution, rule: &Rule, n: u8) -> Substitutio
     })
 }
 
-// The first number, or else the second.
-pub(crate) fn or_else(a: Option<u32>, b: Option<u32>) -> Option<u32>
-    ensures { result ≡ or_else a b }
-{
-    match a {
-        None => b,
-        Some(k) => Some(k),
-    }
-}
-
 // The numbers of both.
 pub fn union(a: Substitution, b: Substitution) -> Substitution
     ensures { result ≡ union_of a b }
 {
-    Substitution::from_fn(|v| or_else(a.get(v), b.get(v)))
+    Substitution::from_fn(|v| a.get(v).or(b.get(v)))
 }
 
 fn compatible_at(a: Option<u32>, b: Option<u32>) -> bool
@@ -72,8 +61,7 @@ fn compatible_at(a: Option<u32>, b: Option<u32>) -> bool
 {
     match (a, b) {
         (Some(j), Some(k)) => j == k,
-        (Some(_), None) => true,
-        (None, _) => true,
+        (Some(_), None) | (None, _) => true,
     }
 }
 
