@@ -5,7 +5,6 @@ mod ends;
 
 use ends::without_end;
 use interpreter::Interpreter;
-use replies::text::text;
 use std::io::{BufRead, BufReader};
 
 fn main(rt: HostRuntime) -> anyhow::Result<()> {
@@ -21,8 +20,7 @@ fn main(rt: HostRuntime) -> anyhow::Result<()> {
         }
         let command = without_end(line.as_slice());
         if let Some(reply) = interpreter.answer(heap, command)? {
-            let answer = text(heap, &reply)?;
-            println!(rt; "{answer}")?;
+            println!(rt; "{reply}")?;
         }
     }
     Ok(())

@@ -1,5 +1,5 @@
 -- What commands do, from what the calls below them answer.
-use Rattle.std.proofs.Common.{◌≡◌, ℕ, List, Some, None, Ok, Err, Result, sym, ap, subst, refl}
+use Rattle.std.proofs.Common.{◌≡◌, ℕ, List, Some, None, Ok, Err, Option, Result, sym, ap, subst, refl}
 use Rattle.std.specs.Result.{IsErrAnd}
 use Rattle.events.specs.declared.meaning.Meaning.{Meaning}
 use Rattle.checking.specs.declared.rule.Rule.{Rule}
@@ -35,20 +35,19 @@ not_shown i e m Memory h = ap (with_monitor i) h.1
 pub rule_set : (i : Interpreter) (xs : List ℕ) (r : Rule) (m : Monitor) (n : ℕ) → Loads xs (Ok r) → Begins r m → n ≡ r.count → SetsRule i xs (record { rule = r; entries = i.entries; monitor = m }) (a_rule n)
 rule_set i xs r m n l b e = subst (λ (k : ℕ). SetsRule i xs (record { rule = r; entries = i.entries; monitor = m }) (a_rule k)) (sym e) (in_force l b)
 
-module _ (i : Interpreter) where
-  -- what is answered to what a line tells
-  module _ (l : LineTold) where
-    pub nothing_said : (o : Option Command) → o ≡ None → IfTold (Ok o) (λ t. t ≡ l) → Answers i l i None
-    nothing_said o q h =
-        let e : nothing ≡ l = subst (λ (p : Option Command). IfTold (Ok p) (λ t. t ≡ l)) q h in
-        subst (λ (x : LineTold). Answers i x i None) e passed_over
+-- what is answered to what a line tells
+module _ (i : Interpreter) (l : LineTold) where
+  pub nothing_said : (o : Option Command) → o ≡ None → IfTold (Ok o) (λ t. t ≡ l) → Answers i l i None
+  nothing_said o q h =
+      let e : nothing ≡ l = subst (λ (p : Option Command). IfTold (Ok p) (λ t. t ≡ l)) q h in
+      subst (λ (x : LineTold). Answers i x i None) e passed_over
 
-    pub said_wrong : (f : ParseFault) (u : Usage) → f ≡ Malformed u → IfTold (Err f) (λ t. t ≡ l) → Answers i l i (Some (expected u))
-    said_wrong f u q h =
-        let e : malformed u ≡ l = subst (λ (g : ParseFault). IfTold (Err g) (λ t. t ≡ l)) q h in
-        subst (λ (x : LineTold). Answers i x i (Some (expected u))) e an_error
+  pub said_wrong : (f : ParseFault) (u : Usage) → f ≡ Malformed u → IfTold (Err f) (λ t. t ≡ l) → Answers i l i (Some (expected u))
+  said_wrong f u q h =
+      let e : malformed u ≡ l = subst (λ (g : ParseFault). IfTold (Err g) (λ t. t ≡ l)) q h in
+      subst (λ (x : LineTold). Answers i x i (Some (expected u))) e an_error
 
-    pub command_done : (k : Interpreter) (o : Option Command) (c : Command) (t : Told) → o ≡ Some c → IfTold (Ok o) (λ t. t ≡ l) → Does i (said_by c) k t → Answers i l k (Some t)
-    command_done k o c t q h d =
-        let e : says (said_by c) ≡ l = subst (λ (p : Option Command). IfTold (Ok p) (λ t. t ≡ l)) q h in
-        subst (λ (x : LineTold). Answers i x k (Some t)) e (a_command d)
+  pub command_done : (k : Interpreter) (o : Option Command) (c : Command) (t : Told) → o ≡ Some c → IfTold (Ok o) (λ t. t ≡ l) → Does i (said_by c) k t → Answers i l k (Some t)
+  command_done k o c t q h d =
+      let e : says (said_by c) ≡ l = subst (λ (p : Option Command). IfTold (Ok p) (λ t. t ≡ l)) q h in
+      subst (λ (x : LineTold). Answers i x k (Some t)) e (a_command d)

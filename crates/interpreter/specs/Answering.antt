@@ -7,7 +7,7 @@ use Rattle.refusals.specs.declared.Place.TheVariants.{Bytes}
 use Rattle.refusals.specs.declared.Refusal.{Refusal}
 use Rattle.events.specs.declared.meaning.Meaning.{Meaning}
 use Rattle.events.specs.Meanings.{single}
-use Rattle.events.specs.Derivation.{derived}
+use Rattle.events.specs.Derivation.{derived, no_entries, with_entry}
 use Rattle.records.specs.Records.{record_of, record_refusal}
 use Rattle.lines.specs.Lines.{alone}
 use Rattle.lines.specs.Refusals.{line_refusal}
@@ -29,7 +29,6 @@ use Rattle.interpreter.specs.declared.Interpreter.{Interpreter}
 use Rattle.replies.specs.declared.reply.Reply.{Reply}
 use Rattle.interpreter.specs.declared.stop.Stop.{Stop}
 use Rattle.interpreter.specs.declared.stop.Stop.TheVariants.{Refused, Memory}
-use Rattle.interpreter.specs.Entries.{no_entries, with_entry}
 use Rattle.interpreter.specs.Sizes.{sizes_of, Ordered}
 
 -- the same with another monitor

@@ -1,4 +1,3 @@
-pub mod Entries
 pub mod Sizes
 pub mod Stops
 pub mod Answering

@@ -8,14 +8,13 @@ ghost use Rattle.replies.specs.Told.{told_by};
 ghost use Rattle.interpreter.specs.Answering.{Showing, SetsRule, part_of, Does, ComesTo, Answers, Opens};
 
 use crate::Interpreter;
-use crate::entries::{no_entries, with_entry};
 use crate::sizes::rising_sizes;
 use crate::stop::Stop;
 use checking::rule::Rule;
 use commands::command::{Asked, Command};
 use commands::fault::ParseFault;
 use commands::parse::parse;
-use events::derived::Derived;
+use events::derived::{Derived, Entries};
 use events::event::Event;
 use judging::judge::judge;
 use lines::line::Line;
@@ -36,7 +35,7 @@ impl Interpreter {
         let monitor = Monitor::begin(heap, &rule)?;
         Ok(Interpreter {
             rule,
-            entries: no_entries(),
+            entries: Entries::NONE,
             monitor,
         })
     }
@@ -70,7 +69,7 @@ impl Interpreter {
         match command {
             Command::Rule(bytes) => self.set_rule(heap, bytes.as_slice()),
             Command::Entry(ty, entry) => {
-                self.entries = with_entry(self.entries, *ty, *entry);
+                self.entries = self.entries.with(*ty, *entry);
                 Ok(Reply::Done)
             }
             Command::Line(text) => self.show_derived(heap, Line::read(text.as_slice())?),

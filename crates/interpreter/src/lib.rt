@@ -6,7 +6,6 @@ use events::derived::Entries;
 use monitor::Monitor;
 
 pub mod answering;
-mod entries;
 mod sizes;
 mod stop;
 

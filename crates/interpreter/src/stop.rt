@@ -25,7 +25,7 @@ impl From<LineFault> for Stop {
     ghost from_gives = { λ f r. r ≡ Refused (line_refusal f) };
 
     fn from(fault: LineFault) -> Stop {
-        Stop::Refused(fault.refusal())
+        Stop::Refused(Refusal::from(fault))
     }
 }
 
@@ -33,7 +33,7 @@ impl From<RecordFault> for Stop {
     ghost from_gives = { λ f r. r ≡ Refused (record_refusal f) };
 
     fn from(fault: RecordFault) -> Stop {
-        Stop::Refused(fault.refusal())
+        Stop::Refused(Refusal::from(fault))
     }
 }
 
@@ -41,7 +41,7 @@ impl From<RuleFault> for Stop {
     ghost from_gives = { λ f r. r ≡ Refused (rule_refusal f) };
 
     fn from(fault: RuleFault) -> Stop {
-        Stop::Refused(fault.refusal())
+        Stop::Refused(Refusal::from(fault))
     }
 }
 

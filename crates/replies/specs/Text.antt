@@ -1,11 +1,11 @@
 -- The text of a reply, one line without its end.
-use Rattle.std.specs.Prelude.{ℕ, cond, List, [], ◌∷◌, ◌++◌, length, Some, None, codes, decimal, Option, ◌==◌}
+use Rattle.std.specs.Prelude.{ℕ, cond, List, [], ◌++◌, length, flat_map, Some, None, codes, decimal, Option, ◌==◌}
 use Rattle.refusals.specs.declared.Place.{Place}
 use Rattle.refusals.specs.declared.Place.TheVariants.{Nowhere, Bytes, Node}
 use Rattle.refusals.specs.declared.Span.{Span}
 use Rattle.refusals.specs.declared.Refusal.{Refusal}
 use Rattle.refusals.specs.Names.{name_of}
-use Rattle.reporting.specs.Text.{word_of}
+use Rattle.calculus.specs.Verdicts.{word_of}
 use Rattle.monitor.specs.declared.Counts.{Counts}
 use Rattle.judging.specs.declared.fault.JudgeFault.{JudgeFault}
 use Rattle.judging.specs.declared.judgement.Judgement.{Judgement}
@@ -22,12 +22,8 @@ counts_text c = codes "shown " ++ (decimal c.shown ++ (codes " taken " ++ decima
 abbrev pub size_piece : ℕ → List ℕ
 size_piece n = codes " " ++ decimal n
 
-abbrev pub sizes_text : List ℕ → List ℕ
-sizes_text [] = []
-sizes_text (n ∷ ns) = size_piece n ++ sizes_text ns
-
 abbrev pub held_text : List ℕ → List ℕ
-held_text ns = (codes "held " ++ (decimal (length ns) ++ codes ":")) ++ sizes_text ns
+held_text ns = (codes "held " ++ (decimal (length ns) ++ codes ":")) ++ flat_map size_piece ns
 
 -- a place in bytes by where it begins and how long it is; a node by its number
 abbrev pub place_text : Place → List ℕ
@@ -58,20 +54,19 @@ fault_in (Some f) = fault_text f
 
 -- the report without its end, and the fault where there is one
 abbrev pub judged_text : Judgement → List ℕ
-judged_text j = ((counts_text j.counts ++ codes " ") ++ word_of j.verdict) ++ fault_in j.fault
+judged_text j = (counts_text j.counts ++ (codes " " ++ word_of j.verdict)) ++ fault_in j.fault
 
 abbrev pub part_text : List ℕ → List ℕ
 part_text bs = cond (length bs == 0) (codes "empty") (hex_text bs)
 
 abbrev pub form_piece : Usage → List ℕ
-form_piece u = (codes " " ++ form_text u) ++ codes ";"
+form_piece u = codes " " ++ (form_text u ++ codes ";")
 
 abbrev pub forms_text : List Usage → List ℕ
-forms_text [] = []
-forms_text (u ∷ us) = form_piece u ++ forms_text us
+forms_text us = codes "commands:" ++ flat_map form_piece us
 
 abbrev pub help_text : List ℕ
-help_text = codes "commands:" ++ forms_text forms
+help_text = forms_text forms
 
 abbrev pub rule_text : ℕ → List ℕ
 rule_text n = codes "rule " ++ decimal n

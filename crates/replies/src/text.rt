@@ -1,164 +1,183 @@
 // The text of a reply, one line without its end.
-ghost use Rattle.std.specs.Prelude.{◌≡◌, ◌++◌, IfOk, string_bytes, OnOk};
-ghost use Rattle.replies.specs.Text.{reply_text, rule_text, error_text, refused_text, place_text, counts_text, size_piece, held_text, judged_text, fault_text, part_text, form_piece, help_text};
+ghost use Rattle.std.specs.Prelude.{◌≡◌, Some};
+ghost use Rattle.replies.specs.Text.{reply_text, refused_text, place_text, counts_text, held_text, judged_text, fault_text, span_of, part_text, forms_text};
 ghost use Rattle.replies.specs.Told.{told_by};
 
 use crate::reply::Reply;
 use commands::command::{FORMS, Usage};
-use commands::hex::hex_text;
+use commands::hex::Hex;
 use judging::fault::JudgeFault;
 use judging::judgement::Judgement;
 use monitor::Counts;
-use refusals::{Place, Refusal};
-use reporting::report::verdict_word;
-use std::alloc::{AllocError, Global};
+use refusals::{Place, Refusal, Span};
+use std::fmt;
 
-pub fn text(heap: Global, reply: &Reply) -> Result<String, AllocError>
-    ensures { IfOk result (λ s. string_bytes s ≡ reply_text (told_by reply.now)) }
-{
-    match reply {
-        Reply::Rule(count) => rule_text(heap, *count),
-        Reply::Done => String::from_str(heap, "ok"),
-        Reply::Shown => String::from_str(heap, "shown"),
-        Reply::Counts(counts) => counts_text(heap, counts),
-        Reply::Verdict(verdict) => String::from_str(heap, verdict_word(*verdict)),
-        Reply::Held(sizes) => held_text(heap, sizes.as_slice()),
-        Reply::Judged(judgement) => judged_text(heap, judgement),
-        Reply::Part(bytes) => part_text(heap, bytes.as_slice()),
-        Reply::Help => help_text(heap),
-        Reply::Refused(refusal) => refused_text(heap, refusal),
-        Reply::Expected(usage) => error_text(heap, *usage),
+impl fmt::Display for Reply {
+    ghost output = { λ r. Some (reply_text (told_by r)) };
+
+    fn fmt<W: fmt::Write>(&self, f: &mut fmt::Formatter<W>) -> fmt::Result {
+        match self {
+            Reply::Rule(count) => write!(f, "rule {count}"),
+            Reply::Done => f.write_str("ok"),
+            Reply::Shown => f.write_str("shown"),
+            Reply::Counts(counts) => write!(f, "{}", Tally(counts)),
+            Reply::Verdict(verdict) => write!(f, "{verdict}"),
+            Reply::Held(sizes) => write!(f, "{}", Sizes(sizes.as_slice())),
+            Reply::Judged(judgement) => write!(f, "{}", Judged(judgement)),
+            Reply::Part(bytes) => write!(f, "{}", Part(bytes.as_slice())),
+            Reply::Help => write!(f, "{}", Forms(&FORMS)),
+            Reply::Refused(refusal) => write!(f, "{}", Refused(refusal)),
+            Reply::Expected(usage) => write!(f, "error expected {usage}"),
+        }
     }
 }
 
-fn rule_text(heap: Global, count: u8) -> Result<String, AllocError>
-    ensures { IfOk result (λ s. string_bytes s ≡ rule_text count) }
-{
-    format!(in heap; "rule {count}")
-}
+// How many events were shown, and how many were taken.
+#[derive(Clone, Copy)]
+struct Tally<'a>(&'a Counts);
 
-fn error_text(heap: Global, usage: Usage) -> Result<String, AllocError>
-    ensures { IfOk result (λ s. string_bytes s ≡ error_text usage) }
-{
-    let mut text = String::from_str(heap, "error expected ")?;
-    text.push_str(usage.text())?;
-    Ok(text)
-}
+impl fmt::Display for Tally<'_> {
+    ghost output = { λ x. Some (counts_text x.0.now) };
 
-fn counts_text(heap: Global, counts: &Counts) -> Result<String, AllocError>
-    ensures { IfOk result (λ s. string_bytes s ≡ counts_text counts.now) }
-{
-    let shown = counts.shown;
-    let taken = counts.taken;
-    format!(in heap; "shown {shown} taken {taken}")
+    fn fmt<W: fmt::Write>(&self, f: &mut fmt::Formatter<W>) -> fmt::Result {
+        let Counts { shown, taken } = *self.0;
+        write!(f, "shown {shown} taken {taken}")
+    }
 }
 
 // The number of states, and their sizes.
-fn held_text(heap: Global, sizes: &[usize]) -> Result<String, AllocError>
-    ensures { IfOk result (λ s. string_bytes s ≡ held_text sizes.now) }
-{
-    let count = sizes.len();
-    let mut text = format!(in heap; "held {count}:")?;
-    for size in sizes {
-        push_size(heap, &mut text, *size)?;
-    }
-    Ok(text)
-}
+#[derive(Clone, Copy)]
+struct Sizes<'a>(&'a [usize]);
 
-fn push_size(heap: Global, text: &mut String, size: usize) -> Result<(), AllocError>
-    ensures { OnOk result (string_bytes text.new ≡ string_bytes text.old ++ size_piece size) }
-{
-    let word = format!(in heap; " {size}")?;
-    text.push_str(word.as_str())
+impl fmt::Display for Sizes<'_> {
+    ghost output = { λ x. Some (held_text x.0.now) };
+
+    fn fmt<W: fmt::Write>(&self, f: &mut fmt::Formatter<W>) -> fmt::Result {
+        let count = self.0.len();
+        write!(f, "held {count}:")?;
+        for size in self.0 {
+            write!(f, " {size}")?;
+        }
+        Ok(())
+    }
 }
 
 // The report, and the fault where there is one.
-fn judged_text(heap: Global, judgement: &Judgement) -> Result<String, AllocError>
-    ensures { IfOk result (λ s. string_bytes s ≡ judged_text judgement.now) }
-{
-    let mut text = counts_text(heap, &judgement.counts)?;
-    text.push_str(" ")?;
-    text.push_str(verdict_word(judgement.verdict))?;
-    if let Some(fault) = &judgement.fault {
-        text.push_str(fault_text(heap, fault)?.as_str())?;
+#[derive(Clone, Copy)]
+struct Judged<'a>(&'a Judgement);
+
+impl fmt::Display for Judged<'_> {
+    ghost output = { λ x. Some (judged_text x.0.now) };
+
+    fn fmt<W: fmt::Write>(&self, f: &mut fmt::Formatter<W>) -> fmt::Result {
+        let Judgement {
+            counts,
+            verdict,
+            fault,
+        } = self.0;
+        write!(f, "{} {verdict}", Tally(counts))?;
+        match fault {
+            Some(fault) => write!(f, "{}", Fault(fault)),
+            None => Ok(()),
+        }
     }
-    Ok(text)
 }
 
 // Number, layer, line and place; 0 and 0 where there is no place. Want of memory has no number.
-fn fault_text(heap: Global, fault: &JudgeFault) -> Result<String, AllocError>
-    ensures { IfOk result (λ s. string_bytes s ≡ fault_text fault.now) }
+#[derive(Clone, Copy)]
+struct Fault<'a>(&'a JudgeFault);
+
+impl fmt::Display for Fault<'_> {
+    ghost output = { λ x. Some (fault_text x.0.now) };
+
+    fn fmt<W: fmt::Write>(&self, f: &mut fmt::Formatter<W>) -> fmt::Result {
+        let line = self.0.line();
+        match self.0.refusal() {
+            Some(
+                Refusal {
+                    number,
+                    layer,
+                    place,
+                },
+            ) => {
+                let Span { at, len } = span(place);
+                write!(f, " fault {number} {layer} {line} {at} {len}")
+            }
+            None => f.write_str(" memory"),
+        }
+    }
+}
+
+// The bytes of a place.
+fn span(place: Place) -> Span
+    ensures { result ≡ span_of place }
 {
-    let line = fault.line();
-    let Some(refusal) = fault.refusal() else {
-        return String::from_str(heap, " memory");
-    };
-    let number = refusal.number;
-    let layer = refusal.layer;
-    let (at, len) = match refusal.place {
-        Place::Bytes(span) => (span.at, span.len),
-        _ => (0, 0),
-    };
-    format!(in heap; " fault {number} {layer} {line} {at} {len}")
+    match place {
+        Place::Bytes(span) => span,
+        _ => Span { at: 0, len: 0 },
+    }
 }
 
 // The bytes in hexadecimal digits.
-fn part_text(heap: Global, bytes: &[u8]) -> Result<String, AllocError>
-    ensures { IfOk result (λ s. string_bytes s ≡ part_text bytes.now) }
-{
-    if bytes.is_empty() {
-        return String::from_str(heap, "empty");
+#[derive(Clone, Copy)]
+struct Part<'a>(&'a [u8]);
+
+impl fmt::Display for Part<'_> {
+    ghost output = { λ x. Some (part_text x.0.now) };
+
+    fn fmt<W: fmt::Write>(&self, f: &mut fmt::Formatter<W>) -> fmt::Result {
+        if self.0.is_empty() {
+            return f.write_str("empty");
+        }
+        write!(f, "{}", Hex(self.0))
     }
-    hex_text(heap, bytes)
 }
 
-// All forms of commands.
-fn help_text(heap: Global) -> Result<String, AllocError>
-    ensures { IfOk result (λ s. string_bytes s ≡ help_text) }
-{
-    let mut text = String::from_str(heap, "commands:")?;
-    for usage in FORMS {
-        push_form(heap, &mut text, usage)?;
+// Forms of commands.
+#[derive(Clone, Copy)]
+struct Forms<'a>(&'a [Usage]);
+
+impl fmt::Display for Forms<'_> {
+    ghost output = { λ x. Some (forms_text x.0.now) };
+
+    fn fmt<W: fmt::Write>(&self, f: &mut fmt::Formatter<W>) -> fmt::Result {
+        f.write_str("commands:")?;
+        for usage in self.0 {
+            write!(f, " {usage};")?;
+        }
+        Ok(())
     }
-    Ok(text)
 }
 
-fn push_form(heap: Global, text: &mut String, usage: Usage) -> Result<(), AllocError>
-    ensures { OnOk result (string_bytes text.new ≡ string_bytes text.old ++ form_piece usage) }
-{
-    let piece = form_piece(heap, usage)?;
-    text.push_str(piece.as_str())
-}
+// Number, layer and place.
+#[derive(Clone, Copy)]
+struct Refused<'a>(&'a Refusal);
 
-fn form_piece(heap: Global, usage: Usage) -> Result<String, AllocError>
-    ensures { IfOk result (λ s. string_bytes s ≡ form_piece usage) }
-{
-    let mut piece = String::from_str(heap, " ")?;
-    piece.push_str(usage.text())?;
-    piece.push_str(";")?;
-    Ok(piece)
-}
+impl fmt::Display for Refused<'_> {
+    ghost output = { λ x. Some (refused_text x.0.now) };
 
-fn refused_text(heap: Global, refusal: &Refusal) -> Result<String, AllocError>
-    ensures { IfOk result (λ s. string_bytes s ≡ refused_text refusal.now) }
-{
-    let number = refusal.number;
-    let layer = refusal.layer;
-    let place = place_text(heap, refusal.place)?;
-    format!(in heap; "refused {number} {layer}{place}")
+    fn fmt<W: fmt::Write>(&self, f: &mut fmt::Formatter<W>) -> fmt::Result {
+        let Refusal {
+            number,
+            layer,
+            place,
+        } = *self.0;
+        write!(f, "refused {number} {layer}{}", At(place))
+    }
 }
 
 // A place in bytes by where it begins and how long it is; a node by its number.
-fn place_text(heap: Global, place: Place) -> Result<String, AllocError>
-    ensures { IfOk result (λ s. string_bytes s ≡ place_text place) }
-{
-    match place {
-        Place::Nowhere => Ok(String::new(heap)),
-        Place::Node(node) => format!(in heap; " {node}"),
-        Place::Bytes(span) => {
-            let at = span.at;
-            let len = span.len;
-            format!(in heap; " {at} {len}")
+#[derive(Clone, Copy)]
+struct At(Place);
+
+impl fmt::Display for At {
+    ghost output = { λ x. Some (place_text x.0) };
+
+    fn fmt<W: fmt::Write>(&self, f: &mut fmt::Formatter<W>) -> fmt::Result {
+        match self.0 {
+            Place::Nowhere => Ok(()),
+            Place::Node(node) => write!(f, " {node}"),
+            Place::Bytes(Span { at, len }) => write!(f, " {at} {len}"),
         }
     }
 }
