@@ -44,28 +44,12 @@ impl fmt::Display for CheckFault {
     ghost output = { λ fault. Some (cause_of fault) };
 
     fn fmt<W: fmt::Write>(&self, f: &mut fmt::Formatter<W>) -> fmt::Result {
-        f.write_str(self.cause())
-    }
-}
-
-impl CheckFault {
-    // The number, layer and place of the refusal.
-    pub fn refusal(&self) -> Refusal
-        ensures { result ≡ refusal_of self.now }
-    {
-        Refusal::from(*self)
-    }
-
-    // The cause in plain words.
-    pub fn cause(&self) -> &'static str
-        ensures { result.now ≡ cause_of self.now }
-    {
-        match *self {
+        f.write_str(match self {
             CheckFault::BadCount => "the count is not 1 to 128",
             CheckFault::BadLayout(_) => "a node breaks the layout",
             CheckFault::Loop(_) => "a node is on a loop",
             CheckFault::TooHeavy(_) => "a node weighs over 1000",
             CheckFault::FreeAtStart => "node 0 has a free variable",
-        }
+        })
     }
 }

@@ -1,5 +1,5 @@
 // Bytes in hexadecimal digits.
-ghost use Rattle.std.specs.Prelude.{◌≡◌, IfOk, Some, vec_items, string_bytes};
+ghost use Rattle.std.specs.Prelude.{◌≡◌, Some, vec_items};
 ghost use Rattle.commands.specs.Hex.{digit_of, pair_of, pairs_of, unhexed, hex_text, Exactly, set_of};
 ghost use Rattle.commands.specs.Read.{IfRead};
 
@@ -81,12 +81,4 @@ impl<'a> fmt::Display for Hex<'a> {
         }
         Ok(())
     }
-}
-
-// The text of bytes.
-pub fn hex_text(heap: Global, bytes: &[u8]) -> Result<String, AllocError>
-    ensures text { IfOk result (λ s. string_bytes s ≡ hex_text bytes.now) }
-    ensures back { IfOk result (λ s. unhexed (string_bytes s) ≡ Some bytes.now) }
-{
-    Hex(bytes).to_string(heap)
 }

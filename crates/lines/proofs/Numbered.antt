@@ -4,7 +4,7 @@ use Rattle.std.specs.Option.{option_map}
 use Rattle.lines.specs.declared.log.LogLine.{LogLine}
 use Rattle.lines.specs.Pieces.{Piece, first_piece, other_piece}
 use Rattle.tokens.specs.Pieces.{before, after, longer, pieces, pieces_in}
-use Rattle.lines.specs.Logs.{newline, trimmed, numbered, lines_in, lines_of, first, others}
+use Rattle.lines.specs.Logs.{newline, trimmed, numbered, lines_in, lines_of}
 use Rattle.tokens.proofs.Cuts.{pieces_first}
 
 -- where no separator is found, the first piece is all
@@ -52,8 +52,3 @@ numbered_length at n (p ∷ ps) = ap suc (numbered_length (at + length p + 1) (n
 
 pub lines_few : (xs : List ℕ) → length (lines_of xs) ≤ length xs
 lines_few xs = omega (arith, numbered_length 0 0 (trimmed (pieces newline xs)), trimmed_few xs)
-
--- a list by its first line and the others
-pub first_line : (ls rest : List LogLine) (l : LogLine) → Some l ≡ first ls → rest ≡ others ls → ls ≡ l ∷ rest
-first_line [] rest l e q = absurd (let z : ◌≡◌ {A = ℕ} 0 1 = cc in omega arith)
-first_line (m ∷ ls) rest l e q = cc

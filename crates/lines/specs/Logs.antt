@@ -42,14 +42,6 @@ lines_in n (Some p) = lines_from p.at n p.bytes
 abbrev pub left : Lines → List LogLine
 left l = lines_in l.passed (option_map piece_of l.rest)
 
-abbrev pub first : List LogLine → Option LogLine
-first [] = None
-first (l ∷ ls) = Some l
-
-abbrev pub others : List LogLine → List LogLine
-others [] = []
-others (l ∷ ls) = ls
-
 abbrev pub of_log : Result Line LineFault → Result Line LogFault
 of_log (Ok x) = Ok x
 of_log (Err e) = Err (in_log e)

@@ -22,23 +22,16 @@ impl Cause {
             Cause::TooLarge => 13,
         }
     }
-
-    // What is wrong, in plain words.
-    pub fn words(self) -> &'static str
-        ensures { result.now ≡ cause_text self }
-    {
-        match self {
-            Cause::Bad => "bad or missing word",
-            Cause::TooLarge => "number too large",
-        }
-    }
 }
 
 impl fmt::Display for Cause {
     ghost output = { λ x. Some (cause_text x) };
 
     fn fmt<W: fmt::Write>(&self, f: &mut fmt::Formatter<W>) -> fmt::Result {
-        f.write_str(self.words())
+        f.write_str(match self {
+            Cause::Bad => "bad or missing word",
+            Cause::TooLarge => "number too large",
+        })
     }
 }
 
@@ -92,14 +85,6 @@ impl From<LineFault> for Refusal {
     }
 }
 
-impl LineFault {
-    pub fn refusal(&self) -> Refusal
-        ensures { result ≡ line_refusal self.now }
-    {
-        Refusal::from(*self)
-    }
-}
-
 impl From<WordFault> for LineFault {
     ghost from_gives = { λ w r. r ≡ in_line w };
 
@@ -127,14 +112,6 @@ impl From<LogFault> for Refusal {
 
     fn from(fault: LogFault) -> Refusal {
         fault.line.into()
-    }
-}
-
-impl LogFault {
-    pub fn refusal(&self) -> Refusal
-        ensures { result ≡ log_refusal self.now }
-    {
-        Refusal::from(*self)
     }
 }
 

@@ -14,15 +14,6 @@ pub enum RuleFault {
     Check(CheckFault),
 }
 
-impl RuleFault {
-    // The number, layer and place of the refusal.
-    pub fn refusal(&self) -> Refusal
-        ensures { result ≡ refusal_of self.now }
-    {
-        Refusal::from(*self)
-    }
-}
-
 impl From<RuleFault> for Refusal {
     ghost from_gives = { λ f r. r ≡ refusal_of f };
 

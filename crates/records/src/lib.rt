@@ -41,14 +41,6 @@ impl From<RecordFault> for Refusal {
     }
 }
 
-impl RecordFault {
-    pub fn refusal(&self) -> Refusal
-        ensures { result ≡ record_refusal self.now }
-    {
-        Refusal::from(*self)
-    }
-}
-
 impl Record {
     // Reads a map byte, a type byte, and the fields that the map announces.
     #[tactic(auto, using(crate::proofs::Exact::exactly_at))]

@@ -1,6 +1,5 @@
 // The report of a play, as text in a buffer that the caller lends.
 ghost use Rattle.std.specs.Prelude.{◌≡◌, ◌≤◌, length, IfOk};
-ghost use Rattle.calculus.specs.Verdicts.{word_of};
 ghost use Rattle.reporting.specs.Text.{over, report_text, report_answer, report_buffer};
 
 use crate::fault::ReportFault;
@@ -10,13 +9,6 @@ use itoa::Buffer;
 
 // Room for the longest report: two counts of ten digits each, and the longest verdict.
 pub const ROOM: usize = 42;
-
-// The verdict's word in a report.
-pub fn verdict_word(verdict: Verdict) -> &'static str
-    ensures { result.now ≡ word_of verdict }
-{
-    verdict.name()
-}
 
 // Writes both counts and the verdict as one line into the front of a buffer, and answers the line's length. The bytes after it stay;
 // a buffer without room for the longest report is refused and stays whole.

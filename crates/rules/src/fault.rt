@@ -44,28 +44,12 @@ impl fmt::Display for ReadFault {
     ghost output = { λ fault. Some (cause_of fault) };
 
     fn fmt<W: fmt::Write>(&self, f: &mut fmt::Formatter<W>) -> fmt::Result {
-        f.write_str(self.cause())
-    }
-}
-
-impl ReadFault {
-    // The number, layer and place of the refusal.
-    pub fn refusal(&self) -> Refusal
-        ensures { result ≡ refusal_of self.now }
-    {
-        Refusal::from(*self)
-    }
-
-    // The cause in plain words.
-    pub fn cause(&self) -> &'static str
-        ensures { result.now ≡ cause_of self.now }
-    {
-        match *self {
+        f.write_str(match self {
             ReadFault::EndsEarly(_) => "the bytes end early",
             ReadFault::BadCount => "the count is not 1 to 128",
             ReadFault::BadLayout(_) => "a node breaks the layout",
             ReadFault::Surplus(_) => "bytes follow the last node",
             ReadFault::ListTooShort => "the list is too short",
-        }
+        })
     }
 }
