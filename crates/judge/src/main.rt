@@ -8,6 +8,7 @@ use judging::judge::judge;
 use judging::judgement::Judgement;
 use loading::fault::RuleFault;
 use loading::load;
+use refusals::Refusal;
 use refusals::message::Message;
 use reporting::excerpt::excerpt;
 use reporting::report::{ROOM, report};
@@ -16,14 +17,13 @@ use std::io::{Read, Write};
 use std::process::ExitCode;
 
 // Why the bytes are no rule.
-fn tell_rule(rt: &HostRuntime, bytes: &[u8], fault: &RuleFault) -> anyhow::Result<()> {
-    let refusal = fault.refusal();
-    let part = excerpt(bytes, b"", &refusal);
+fn tell_rule(rt: &HostRuntime, bytes: &[u8], fault: RuleFault) -> anyhow::Result<()> {
+    let refusal = Refusal::from(fault);
     let message = Message {
         line: 0,
         refusal,
-        cause: *fault,
-        part,
+        cause: fault,
+        part: excerpt(bytes, b"", &refusal),
     };
     eprint!(rt; "rule.bin: {message}")?;
     Ok(())
@@ -31,6 +31,7 @@ fn tell_rule(rt: &HostRuntime, bytes: &[u8], fault: &RuleFault) -> anyhow::Resul
 
 // The report of a judgement.
 fn tell_report(rt: &HostRuntime, judgement: &Judgement) -> anyhow::Result<()> {
+    // A report is written into a buffer that its caller lends.
     let mut buffer = [0u8; ROOM];
     let counts = judgement.counts;
     let length = report(&mut buffer, counts.shown, counts.taken, judgement.verdict).unwrap();
@@ -39,18 +40,17 @@ fn tell_report(rt: &HostRuntime, judgement: &Judgement) -> anyhow::Result<()> {
 }
 
 // Why judging stopped before the end of the log.
-fn tell_fault(rt: &HostRuntime, rule: &[u8], log: &[u8], fault: &JudgeFault) -> anyhow::Result<()> {
+fn tell_fault(rt: &HostRuntime, rule: &[u8], log: &[u8], fault: JudgeFault) -> anyhow::Result<()> {
     let line = fault.line();
     let Some(refusal) = fault.refusal() else {
         eprintln!(rt; "line {line}: {fault}")?;
         return Ok(());
     };
-    let part = excerpt(rule, log, &refusal);
     let message = Message {
         line,
         refusal,
-        cause: *fault,
-        part,
+        cause: fault,
+        part: excerpt(rule, log, &refusal),
     };
     eprint!(rt; "{message}")?;
     Ok(())
@@ -62,7 +62,7 @@ fn main(rt: HostRuntime) -> anyhow::Result<ExitCode> {
     let rule = match load(&bytes) {
         Ok(rule) => rule,
         Err(fault) => {
-            tell_rule(&rt, &bytes, &fault)?;
+            tell_rule(&rt, &bytes, fault)?;
             return Ok(ExitCode::FAILURE);
         }
     };
@@ -73,6 +73,6 @@ fn main(rt: HostRuntime) -> anyhow::Result<ExitCode> {
     let Some(fault) = judgement.fault else {
         return Ok(ExitCode::SUCCESS);
     };
-    tell_fault(&rt, &bytes, &log, &fault)?;
+    tell_fault(&rt, &bytes, &log, fault)?;
     Ok(ExitCode::FAILURE)
 }
