@@ -6,7 +6,7 @@ mod tests {
     use calculus::verdict::Verdict;
     use calculus::verdict::Verdict::{Broken, MayEnd, Open};
     use checking::rule::Rule;
-    use events::derived::{Entries, Entry};
+    use events::derived::{Entries, Entry, FIRST_DERIVED};
     use events::types::TypeSet;
     use judging::judge::{MOST_BYTES, judge};
     use judging::judgement::Judgement;
@@ -23,10 +23,6 @@ mod tests {
 
     // One event of type 48, and then nothing.
     const DERIVED_RULE: &[u8] = b"\x02\x0B\x01\x01\x30\x00";
-
-    const NO_ENTRIES: Entries = Entries {
-        list: [Entry::Absent; 16],
-    };
 
     fn rule_of(bytes: &[u8]) -> Rule {
         load(bytes).unwrap_or(Rule::empty())
@@ -67,7 +63,7 @@ mod tests {
     }
 
     fn cards(heap: Global, log: &[u8]) -> Result<(Told, Option<Fault>), Fail> {
-        let judgement = judge(heap, &rule_of(CARD_RULE), &NO_ENTRIES, log)?;
+        let judgement = judge(heap, &rule_of(CARD_RULE), &Entries::NONE, log)?;
         Ok((told(&judgement), fault(&judgement)))
     }
 
@@ -163,17 +159,17 @@ mod tests {
     fn entries(rt: HostRuntime) -> Result<(), Fail> {
         let heap = rt.alloc();
         let rule = rule_of(DERIVED_RULE);
-        let mut entries = NO_ENTRIES;
+        let entries = Entries::NONE;
         assert_eq!(rt;
             told(&judge(heap, &rule, &entries, b"1 c7\n")?),
             (1, 0, Broken)
         );
-        entries.list[0] = Entry::AnyOf(TypeSet { bits: 6 });
+        let entries = Entries::NONE.with(FIRST_DERIVED, Entry::AnyOf(TypeSet { bits: 6 }));
         assert_eq!(rt;
             told(&judge(heap, &rule, &entries, b"1 c7\n")?),
             (1, 1, MayEnd)
         );
-        entries.list[0] = Entry::NoneOf(TypeSet { bits: 6 });
+        let entries = Entries::NONE.with(FIRST_DERIVED, Entry::NoneOf(TypeSet { bits: 6 }));
         assert_eq!(rt;
             told(&judge(heap, &rule, &entries, b"1 c7\n")?),
             (1, 0, Broken)

@@ -8,7 +8,7 @@ mod rulebook;
 
 use anyhow::anyhow;
 use checking::rule::Rule;
-use events::derived::{Derived, Entries, Entry};
+use events::derived::{Derived, Entries, Entry, FIRST_DERIVED};
 use events::fields::Fields;
 use events::types::TypeSet;
 use lines::line::Line;
@@ -59,11 +59,10 @@ fn play_many<F: Fn(u32) -> u32>(
 
 // A derived event, a record and a line, shown to one monitor.
 fn play_mixed(rt: &HostRuntime) -> anyhow::Result<()> {
-    let mut list = [Entry::Absent; 16];
-    list[0] = Entry::NoneOf(TypeSet { bits: 2 });
+    let not_entered = Entry::NoneOf(TypeSet { bits: 2 });
     let derived = Derived {
         below: line(3, 7),
-        entries: Entries { list },
+        entries: Entries::NONE.with(FIRST_DERIVED, not_entered),
     };
     let record = Record::read(&[2, 1, 0, 0, 0, 7]).map_err(|_| anyhow!("no record"))?;
     let mut play = Play::begin(rt.alloc(), &rule_of(MIXED)?)?;
