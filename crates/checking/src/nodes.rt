@@ -28,8 +28,9 @@ impl Nodes {
         }
         let count = list.len() as u8;
         let mut nodes = [Node::Empty; MOST_NODES];
-        for (n, record) in list.iter().enumerate() {
-            nodes[n] = decode(record, count).ok_or(CheckFault::BadLayout(n as u8))?;
+        // By index, as reading fills them: the records are lent by the caller, who may have written any of them since.
+        for n in 0..list.len() {
+            nodes[n] = decode(&list[n], count).ok_or(CheckFault::BadLayout(n as u8))?;
         }
         Ok(Nodes { list: nodes })
     }

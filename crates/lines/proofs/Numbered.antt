@@ -1,7 +1,6 @@
 -- The lines of a log, one after the other.
 use Rattle.std.proofs.Common.{◌≡◌, ℕ, suc, ◌+◌, ◌<◌, ◌≤◌, Bool, true, false, cond, eqb, List, [], ◌∷◌, length, Some, None, Option, refl, ap, ◌∙◌, arith}
 use Rattle.std.specs.Option.{option_map}
-use Rattle.lines.specs.declared.log.LogLine.{LogLine}
 use Rattle.lines.specs.Pieces.{Piece, first_piece, other_piece}
 use Rattle.tokens.specs.Pieces.{before, after, longer, pieces, pieces_in}
 use Rattle.lines.specs.Logs.{newline, trimmed, numbered, lines_in, lines_of}

@@ -66,11 +66,12 @@ impl Nodes<'_> {
         requires fine { is_ok (nodes_of self.all self.count self.count self.rest.now) ≡ true }
         ensures { nodes_of self.entry.all self.entry.count self.entry.count self.entry.rest.now ≡ Ok list.new }
     {
-        for place in list.iter_mut() {
+        // By index, as checking reads them: the records are lent by the caller.
+        for i in 0..list.len() {
             let Ok(record) = self.node() else {
                 return;
             };
-            *place = record;
+            list[i] = record;
         }
     }
 }
