@@ -47,7 +47,7 @@ impl Relation {
         }
     }
 
-    // From links to paths of one or more links.
+    // From links to paths of one or more links. The loop counts, since what it goes over is the number of the node that paths may pass.
     fn close(&mut self)
         ensures { (i j : ℕ) → i < 128 → in_row self.new.rows i j ≡ reach (in_row self.old.rows) 128 i j }
     {
