@@ -1,7 +1,7 @@
 -- The report of a play.
 use Rattle.std.specs.Prelude.{ℕ, cond, List, [], ◌∷◌, ◌++◌, length, drop, Ok, Err, codes, decimal, Result, nat_lt}
 use Rattle.calculus.specs.declared.verdict.Verdict.{Verdict}
-pub use Rattle.calculus.specs.Verdicts.{word_of}
+use Rattle.calculus.specs.Verdicts.{word_of}
 use Rattle.reporting.specs.declared.fault.ReportFault.{ReportFault}
 use Rattle.reporting.specs.declared.fault.ReportFault.TheVariants.{ShortBuffer}
 
