@@ -18,7 +18,7 @@ fn through(row: NodeSet, k: usize, via: NodeSet) -> NodeSet
     if row.has(k) { row.join(via) } else { row }
 }
 
-// For each node a row, the set of the nodes that it leads to.
+// For each node a row, the set of the nodes that it leads to. Checking has fixed memory, so the rows are an array.
 #[derive(Clone, Copy)]
 pub(crate) struct Relation {
     pub(crate) rows: [NodeSet; MOST_NODES],

@@ -34,7 +34,7 @@ pub enum Command {
     Help,
 }
 
-// The form that a line should have, by its first word.
+// The form that a line should have, by its first word. `Unknown` has a text of its own, so an `Option` of the others would be no plainer.
 #[derive(Clone, Copy, Debug, PartialEq, Eq)]
 pub enum Usage {
     Rule,
@@ -67,7 +67,7 @@ pub const FORMS: [Usage; 11] = [
 ];
 
 impl Usage {
-    // The form in words; it begins with the word of its commands.
+    // The form in words; it begins with the word of its commands, which is cut from it, so it is not only printed.
     pub fn text(self) -> &'static str
         ensures { result.now ≡ form_text self }
     {

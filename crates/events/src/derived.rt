@@ -13,7 +13,8 @@ pub const FIRST_DERIVED: u8 = 48;
 // The highest one, which is the highest type of all.
 pub const LAST_DERIVED: u8 = 63;
 
-// What derives one type, if anything does: the event below is of at least one type of the set, or of none.
+// What derives one type, if anything does: the event below is of at least one type of the set, or of none. An `Option` of two would be
+// no plainer: each `match` tells three apart.
 #[derive(Clone, Copy, Debug, PartialEq, Eq)]
 pub enum Entry {
     Absent,

@@ -63,7 +63,8 @@ impl From<WordFault> for Refusal {
     }
 }
 
-// A line that cannot be read, by its word.
+// A line that cannot be read, by its word. By a rule of the project a fault is carried whole from a word to its line and to its log, so
+// these are two types of one field.
 #[derive(Clone, Copy, Debug, PartialEq, Eq)]
 pub struct LineFault {
     pub word: WordFault,

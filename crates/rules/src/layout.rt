@@ -16,6 +16,7 @@ const BINDER_MAP: u8 = Field::Kind as u8 + Field::First as u8 + Field::Variable 
 
 const MOST_TYPE: u8 = 63;
 
+// The flag stands apart from the field, since the caller's records hold both.
 fn slot(there: bool, f: SlotField) -> Option<Slot>
     ensures { result ≡ slot_of there f }
 {

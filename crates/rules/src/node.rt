@@ -48,7 +48,8 @@ impl TryFrom<u32> for Var {
     }
 }
 
-// What a pattern asks of a slot: nothing, this number, or the variable's number.
+// What a pattern asks of a slot: nothing, this number, or the variable's number. An `Option` of two would be no plainer: each `match`
+// tells three apart.
 #[derive(Clone, Copy)]
 pub enum Slot {
     Any,
@@ -74,7 +75,7 @@ pub enum Op {
     Shuffle,
 }
 
-// A node of a rule; a number is that of a child.
+// A node of a rule; a number is that of a child. No boxes, since a prefix may lead back to where it came from: a rule is a graph.
 #[derive(Clone, Copy)]
 pub enum Node {
     Empty,
