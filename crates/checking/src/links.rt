@@ -6,15 +6,15 @@ ghost use Rattle.checking.specs.Links.{listed, targets as targets_of, link, insi
 use crate::set::NodeSet;
 use rules::node::{Node, Slot, Var};
 
-// Which links to follow: those that no prefix guards, or those along which a variable stays free. A closure in its place would be no
-// plainer: the rule's invariants and its definitions name the two.
+// Which links to follow: those that no prefix guards, or those along which a variable stays free. Neither an `Option` of a variable nor a
+// closure would be plainer: the rule's invariants and its definitions name the two relations.
 #[derive(Clone, Copy)]
 pub enum Links {
     Unguarded,
     Free(Var),
 }
 
-// Where the links of a node lead. Checking has fixed memory, so this is no `Vec`.
+// Where the links of a node lead. Three cases that are matched, so a list of at most two would be no plainer.
 #[derive(Clone, Copy)]
 pub enum Children {
     None,

@@ -1,4 +1,4 @@
-// The lowest node that passes a test.
+// Searching among the nodes.
 ghost use Rattle.std.specs.Prelude.{◌≡◌, ℕ, Bool, ◌<◌};
 ghost use Rattle.checking.specs.Answer.{first};
 

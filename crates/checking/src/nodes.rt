@@ -28,7 +28,7 @@ impl Nodes {
         }
         let count = list.len() as u8;
         let mut nodes = [Node::Empty; MOST_NODES];
-        // By index, as reading fills them: the records are lent by the caller, who may have written any of them since.
+        // By a rule of the project the caller's records are read by index.
         for n in 0..list.len() {
             nodes[n] = decode(&list[n], count).ok_or(CheckFault::BadLayout(n as u8))?;
         }

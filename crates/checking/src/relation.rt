@@ -1,5 +1,5 @@
 // Which node leads to which, by links and by paths.
-ghost use Rattle.std.specs.Prelude.{◌≡◌, ℕ, ◌<◌, ◌≤◌, ◌&&◌, ◌||◌, length, slice_index};
+ghost use Rattle.std.specs.Prelude.{◌≡◌, ℕ, ◌<◌, ◌&&◌, ◌||◌, length, slice_index};
 ghost use Rattle.checking.specs.Sets.{holds, count as count_of};
 ghost use Rattle.checking.specs.Links.{node, links as links_of};
 ghost use Rattle.checking.specs.Paths.{in_row, reach};
@@ -29,6 +29,7 @@ impl Relation {
     fn links(which: Links, nodes: &Nodes) -> Relation
         ensures { (i j : ℕ) → i < 128 → in_row result.rows i j ≡ links_of which (node nodes.now.list) i j }
     {
+        // `map` was tried, and did not close: that each node is inside did not reach the closure.
         let mut rows = [NodeSet::NONE; MOST_NODES];
         for (n, node) in nodes.list.iter().enumerate() {
             rows[n] = target_set(which, node);

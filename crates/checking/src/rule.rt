@@ -19,7 +19,8 @@ pub const MOST_WEIGHT: u16 = 1000;
 // A checked rule: nothing outside this crate can make one but by checking, or the rule of one empty node. Past `count` the
 // nodes are empty. The invariants are what a recursion over the nodes needs: children are nodes of the rule, no node is on
 // a loop or too heavy, the rank falls at every link that no prefix guards, what a node's pattern names is free there and
-// stays free up the links that do not bind it, and no variable is free in node 0. A rule has fixed memory, so these are arrays side by side.
+// stays free up the links that do not bind it, and no variable is free in node 0. A rule has fixed memory, so its nodes
+// are an array with a count, and ranks one beside it, as the invariants name them.
 #[derive(Clone, Copy)]
 pub struct Rule {
     pub(crate) count: u8,

@@ -7,7 +7,7 @@ use rules::by_var::ByVar;
 use rules::node::Var;
 use rules::record::MOST_NODES;
 
-// A set of nodes, a bit for each.
+// A set of nodes, a bit for each. That of types in `events` is of another size: one generic in its number would be no plainer.
 #[derive(Clone, Copy)]
 pub struct NodeSet {
     pub bits: u128,

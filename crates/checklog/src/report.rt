@@ -64,7 +64,7 @@ impl fmt::Display for Stop<'_> {
         let line = word.line;
         let bytes = Quoted(word.span.part(self.log));
         let at = word.span.at;
-        // Not the message of a refusal, which leaves out the number of a line 0.
+        // Not a `Message`, which tells no line 0: nothing in a fault's type says that its line is not 0.
         writeln!(
             f,
             "line {line}: refused {number} {layer}: {fault} {bytes} at byte {at}"

@@ -30,7 +30,7 @@ impl<T: Drop> From<AllocFailed<T>> for TextFault {
 }
 
 // Why a line is no command: it is not in the form that its first word asks for, or memory is wanting.
-// Apart from `TextFault`, since one enum that may tell a form would be no plainer.
+// Apart from `TextFault`, which has no form to tell: a generic fault would be no plainer for the two.
 #[derive(Clone, Copy, Debug, PartialEq, Eq)]
 pub enum ParseFault {
     Malformed(Usage),

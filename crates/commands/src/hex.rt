@@ -5,7 +5,7 @@ ghost use Rattle.commands.specs.Read.{IfRead};
 
 use crate::fault::TextFault;
 use events::types::TypeSet;
-use std::alloc::{AllocError, Global};
+use std::alloc::Global;
 use std::fmt;
 
 // What a digit stands for, in either case.

@@ -14,7 +14,7 @@ const LAYERS: [Layer; 7] = [
     Layer::Report,
 ];
 
-// The layer that a word names; a function, since `TryFrom` and `Layer` are both of other crates.
+// The layer that a word names. No conversion of `Layer` itself, where it would be no plainer: only commands name layers by words.
 pub fn layer_named(word: &[u8]) -> Option<Layer>
     ensures answer { result ≡ layer_named word.now }
     ensures inverse { Inverse word.now result }

@@ -12,7 +12,7 @@ use tokens::pieces::cut;
 
 pub(crate) const SPACE: u8 = b' ';
 
-// The words that are still to be read.
+// The words that are still to be read. Those of `lines` carry their places besides, so one type for both would be no plainer.
 #[derive(Drop)]
 pub(crate) struct Words<'a> {
     // What they are cut from, if one is left.

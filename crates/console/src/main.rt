@@ -12,7 +12,7 @@ fn main(rt: HostRuntime) -> anyhow::Result<()> {
     let mut interpreter = Interpreter::new(heap)?;
     let mut input = BufReader::new(heap, rt.stdin())?;
     let mut line = Vec::new(heap);
-    // Not `split`, which takes the ends off with no clause that says so.
+    // Not `split`, which would be no plainer: a function with a contract says what ends a line. The count is never reached.
     for _ in 0..u64::MAX {
         line.clear();
         if input.read_until(b'\n', &mut line)? == 0 {

@@ -12,10 +12,10 @@ pub trait Event {
     fn is_of(&self, ty: u8) -> bool
         ensures { result ≡ has (meaning self.now).types ty };
 
-    // What does the slot hold? Nothing, for a slot over 2.
+    // What does the slot hold? Nothing, for a slot over 2: by a rule of the project any number can be asked.
     fn slot(&self, slot: u8) -> Option<u32>
         ensures { result ≡ in_slot (meaning self.now) slot };
 
-    // the types are 0 to 63
+    // The types are 0 to 63.
     ghost known: { (x : Self) → (meaning x).types.bits < 2 ^ 64 };
 }

@@ -21,7 +21,7 @@ pub(crate) enum Stop {
     Memory,
 }
 
-// One conversion for each fault: one for every fault that is a refusal would overlap that for want of memory.
+// One conversion for each fault, so that `?` serves every call: `map_err` at each would be no plainer.
 impl From<LineFault> for Stop {
     ghost from_gives = { λ f r. r ≡ Refused (line_refusal f) };
 

@@ -30,7 +30,7 @@ impl Line {
     }
 }
 
-// Records have the same lines: by a rule of the project each kind of event has the interface itself.
+// As for `Record`: by a rule of the project each kind of event implements the interface itself.
 impl Event for Line {
     ghost meaning = { λ x. single x.fields };
 
@@ -109,7 +109,7 @@ fn through<S: Copy, F: Fn(S, &[u8]) -> Option<S>>(
     Ok(state)
 }
 
-// The slot that a letter names, as a number, since an event is asked for its slots by number.
+// The slot that a letter names, as a number, since only the order of slots counts here: an enum of three would be no plainer.
 fn slot_of(letter: u8) -> Option<u8>
     ensures { result ≡ slot_of letter }
 {

@@ -1,3 +1,4 @@
 pub mod Faults
 pub mod Uses
 pub mod Promise
+pub mod Text

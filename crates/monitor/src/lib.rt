@@ -9,6 +9,7 @@ use states::tree::Tree;
 mod asking;
 pub mod fault;
 mod showing;
+mod text;
 pub mod theorem;
 
 // The most events that a monitor is shown.
@@ -25,7 +26,7 @@ pub struct Monitor {
 }
 
 // How many events a monitor was shown, and how many of them it took.
-#[derive(Clone, Copy)]
+#[derive(Clone, Copy, Debug, PartialEq, Eq)]
 pub struct Counts {
     pub shown: u32,
     pub taken: u32,

@@ -37,11 +37,9 @@ impl Play {
     // Prints what the play comes to.
     pub(crate) fn tell(&self, rt: &HostRuntime, name: &str) -> anyhow::Result<()> {
         let counts = self.monitor.counts();
-        let shown = counts.shown;
-        let taken = counts.taken;
         let verdict = self.monitor.verdict();
         let refused = self.refused;
-        println!(rt; "{name}: shown {shown} taken {taken} {verdict}, {refused} refused")?;
+        println!(rt; "{name}: {counts} {verdict}, {refused} refused")?;
         Ok(())
     }
 }

@@ -59,7 +59,7 @@ impl Record {
     }
 }
 
-// Lines have the same lines: by a rule of the project each kind of event has the interface itself.
+// As for `Line`: by a rule of the project each kind of event implements the interface itself.
 impl Event for Record {
     ghost meaning = { λ x. single x.fields };
 
@@ -74,6 +74,7 @@ impl Event for Record {
     }
 }
 
+// By a rule of the project a record is read by this slice pattern, and then each announced field by a pattern.
 fn fields_of(bytes: &[u8]) -> Option<Fields>
     ensures { result ≡ fields_of bytes.now }
 {

@@ -65,8 +65,8 @@ impl Span {
     }
 }
 
-// Where a fault lies: in no place, in a part of the bytes, or in a node. An `Option` of two would be no plainer: each `match` tells three
-// apart.
+// Where a fault lies: in no place, in a part of the bytes, or in a node. To have no place is an answer of its own, so an `Option` of two
+// would be no plainer.
 #[derive(Clone, Copy, Debug, PartialEq, Eq)]
 pub enum Place {
     Nowhere,
@@ -74,7 +74,7 @@ pub enum Place {
     Node(u8),
 }
 
-// What a refusal answers.
+// What a refusal answers. Its number is part of the product, so it is no enum.
 #[derive(Clone, Copy, Debug, PartialEq, Eq)]
 pub struct Refusal {
     pub number: u8,

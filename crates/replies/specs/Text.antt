@@ -6,7 +6,7 @@ use Rattle.refusals.specs.declared.Span.{Span}
 use Rattle.refusals.specs.declared.Refusal.{Refusal}
 use Rattle.refusals.specs.Names.{name_of}
 use Rattle.calculus.specs.Verdicts.{word_of}
-use Rattle.monitor.specs.declared.Counts.{Counts}
+use Rattle.monitor.specs.Text.{counts_text}
 use Rattle.judging.specs.declared.fault.JudgeFault.{JudgeFault}
 use Rattle.judging.specs.declared.judgement.Judgement.{Judgement}
 use Rattle.judging.specs.Refusals.{refusal_of, line_of}
@@ -14,9 +14,6 @@ use Rattle.commands.specs.declared.command.Usage.{Usage}
 use Rattle.commands.specs.Forms.{form_text, forms}
 use Rattle.commands.specs.Hex.{hex_text}
 use Rattle.replies.specs.Told.{Told, a_rule, done, shown, counts, verdict, held, judged, part, help, refused, expected}
-
-abbrev pub counts_text : Counts → List ℕ
-counts_text c = codes "shown " ++ (decimal c.shown ++ (codes " taken " ++ decimal c.taken))
 
 -- a space before each size
 abbrev pub size_piece : ℕ → List ℕ

@@ -1,6 +1,6 @@
 // The text of a reply, one line without its end.
 ghost use Rattle.std.specs.Prelude.{◌≡◌, Some};
-ghost use Rattle.replies.specs.Text.{reply_text, refused_text, place_text, counts_text, held_text, judged_text, fault_text, span_of, part_text, forms_text};
+ghost use Rattle.replies.specs.Text.{reply_text, refused_text, place_text, held_text, judged_text, fault_text, span_of, part_text, forms_text};
 ghost use Rattle.replies.specs.Told.{told_by};
 
 use crate::reply::Reply;
@@ -8,7 +8,6 @@ use commands::command::{FORMS, Usage};
 use commands::hex::Hex;
 use judging::fault::JudgeFault;
 use judging::judgement::Judgement;
-use monitor::Counts;
 use refusals::{Place, Refusal, Span};
 use std::fmt;
 
@@ -20,7 +19,7 @@ impl fmt::Display for Reply {
             Reply::Rule(count) => write!(f, "rule {count}"),
             Reply::Done => f.write_str("ok"),
             Reply::Shown => f.write_str("shown"),
-            Reply::Counts(counts) => write!(f, "{}", Tally(counts)),
+            Reply::Counts(counts) => write!(f, "{counts}"),
             Reply::Verdict(verdict) => write!(f, "{verdict}"),
             Reply::Held(sizes) => write!(f, "{}", Sizes(sizes.as_slice())),
             Reply::Judged(judgement) => write!(f, "{}", Judged(judgement)),
@@ -29,19 +28,6 @@ impl fmt::Display for Reply {
             Reply::Refused(refusal) => write!(f, "{}", Refused(refusal)),
             Reply::Expected(usage) => write!(f, "error expected {usage}"),
         }
-    }
-}
-
-// How many events were shown, and how many were taken.
-#[derive(Clone, Copy)]
-struct Tally<'a>(&'a Counts);
-
-impl fmt::Display for Tally<'_> {
-    ghost output = { λ x. Some (counts_text x.0.now) };
-
-    fn fmt<W: fmt::Write>(&self, f: &mut fmt::Formatter<W>) -> fmt::Result {
-        let Counts { shown, taken } = *self.0;
-        write!(f, "shown {shown} taken {taken}")
     }
 }
 
@@ -75,7 +61,7 @@ impl fmt::Display for Judged<'_> {
             verdict,
             fault,
         } = self.0;
-        write!(f, "{} {verdict}", Tally(counts))?;
+        write!(f, "{counts} {verdict}")?;
         match fault {
             Some(fault) => write!(f, "{}", Fault(fault)),
             None => Ok(()),

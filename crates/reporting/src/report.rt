@@ -10,7 +10,8 @@ use itoa::Buffer;
 // Room for the longest report: two counts of ten digits each, and the longest verdict.
 pub const ROOM: usize = 42;
 
-// Writes both counts and the verdict as one line into the front of a buffer, and answers the line's length. The bytes after it stay;
+// Writes both counts and the verdict as one line into the front of a buffer (by a rule of the project the buffer is lent, and the counts
+// are two numbers), and answers the line's length. The bytes after it stay;
 // a buffer without room for the longest report is refused and stays whole.
 pub fn report(
     buffer: &mut [u8],

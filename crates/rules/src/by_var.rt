@@ -1,4 +1,4 @@
-// A value for each variable.
+// What is kept for each variable.
 ghost use Rattle.std.specs.Prelude.{◌≡◌, if◌then◌else◌};
 ghost use Rattle.rules.specs.Vars.{same};
 ghost use Rattle.rules.specs.declared.node.Var.{Var as V};
@@ -6,7 +6,7 @@ ghost use Rattle.rules.specs.ByVar.{at, tabulate};
 
 use crate::node::Var;
 
-// A value for each variable.
+// A value for each variable, in four fields: an array would be no plainer, since its definitions would speak of its length.
 #[derive(Clone, Copy, PartialEq, Eq)]
 pub struct ByVar<T> {
     pub v0: T,

@@ -48,8 +48,8 @@ impl TryFrom<u32> for Var {
     }
 }
 
-// What a pattern asks of a slot: nothing, this number, or the variable's number. An `Option` of two would be no plainer: each `match`
-// tells three apart.
+// What a pattern asks of a slot: nothing, this number, or the variable's number. To ask nothing is one of three
+// things asked, so an `Option` of two would be no plainer.
 #[derive(Clone, Copy)]
 pub enum Slot {
     Any,

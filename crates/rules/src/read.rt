@@ -1,5 +1,5 @@
 // Reading a rule's bytes into a list of node records that the caller lends.
-ghost use Rattle.std.specs.Prelude.{◌≡◌, ◌≤◌, true, length, is_ok, Ok, Err, MatchResult};
+ghost use Rattle.std.specs.Prelude.{◌≡◌, true, length, is_ok, Ok, Err, MatchResult};
 ghost use Rattle.rules.specs.Bytes.{ending, node_of, nodes_of, rule_of, checked, answered, written};
 ghost use Rattle.rules.specs.Writing.{Decodes};
 
@@ -66,7 +66,7 @@ impl Nodes<'_> {
         requires fine { is_ok (nodes_of self.all self.count self.count self.rest.now) ≡ true }
         ensures { nodes_of self.entry.all self.entry.count self.entry.count self.entry.rest.now ≡ Ok list.new }
     {
-        // By index, as checking reads them: the records are lent by the caller.
+        // By a rule of the project the caller's records are written by index, and read by index in checking.
         for i in 0..list.len() {
             let Ok(record) = self.node() else {
                 return;

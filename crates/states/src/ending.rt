@@ -8,6 +8,7 @@ use crate::tree::Tree;
 use checking::rule::Rule;
 use rules::node::{Node, Op};
 
+// Whether a node may end, as `may_end` says it of a tree: one function for both would need a trait, and be no plainer.
 fn node_ends(rule: &Rule, n: u8) -> bool
     ensures { result ≡ node_ends (graph_of rule.now) (suc ((graph_of rule.now).rank n)) ((graph_of rule.now).node n) }
 {

@@ -10,6 +10,7 @@ use crate::tree::Tree;
 pub fn remaining(tree: &Tree, limit: usize) -> Option<usize>
     ensures { SomeIff result (cells (state tree.now) ≤ limit) (limit - cells (state tree.now)) }
 {
+    // Not `checked_sub` and `?`, which cost 3 million instructions on 182 million for a play of 12 cards.
     if limit == 0 {
         return None;
     }

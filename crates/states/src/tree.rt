@@ -12,6 +12,7 @@ use std::alloc::{AllocError, Global};
 
 // A state: a leaf is a node with settled numbers; a pair, a binder state (a variable) and a filter state (a node) stand
 // over states.
+// An enum can have no model yet, so contracts say `state`.
 #[derive(PartialEq, Drop)]
 pub enum Tree {
     Leaf(u8, Substitution),

@@ -31,7 +31,8 @@ impl Held {
         }
     }
 
-    // Holds a state, unless it is held. `Outcomes::add` limits cells as well: one function for both would need a trait with laws for each limit.
+    // Holds a state, unless it is held. `Outcomes::add` tests the size of a state too: a trait with the laws of both limits would be longer
+    // than the two, and no plainer.
     fn hold(&mut self, t: Tree) -> Result<(), StepFault>
         ensures { AddsStates (states_of self.old.states.items) (state t ∷ []) (states_of self.new.states.items) result }
     {

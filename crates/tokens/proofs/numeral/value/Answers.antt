@@ -1,6 +1,6 @@
-use Rattle.std.proofs.Common.{◌+◌, ◌-◌, ◌*◌, get_or, drop, sym, ◌∙◌, arith}
+use Rattle.std.proofs.Common.{◌+◌, ◌-◌, ◌*◌, get_or, drop, arith}
 use Rattle.std.proofs.lemmas.Bool.Decides.{nat_tests}
-use Rattle.std.proofs.lemmas.List.{at_drop_more, at_drop_all}
+use Rattle.std.proofs.lemmas.List.{at_drop_more}
 use Rattle.tokens.specs.Numerals.{value_from}
 use Rattle.tokens.proofs.Numerals.{value_grows}
 use Rattle.tokens.proofs.numeral.value.Goals as goal
@@ -11,16 +11,4 @@ returns-then-n-from-clause-number c =
     let i = c.loop-digit.invariant in
     let f = c.from.ensures in
     let v = value_grows (c.loop-digit.n * 10 + (get_or c.args.digits.now c.loop-digit.digit-index 0 - 48)) (drop (c.loop-digit.digit-index + 1) c.args.digits.now) in
-    grind (arith, nat_tests)
-
-pub loop-digit-preserved : goal.loop-digit-preserved
-loop-digit-preserved c =
-    let e = at_drop_more (value_from c.loop-digit.n) c.args.digits.now c.loop-digit.digit-index 0 (omega arith) in
-    let i = c.loop-digit.invariant in
-    (rw (c.from.ensures, c.saturating_sub.ensures) (sym e ∙ i.0), omega arith)
-
-pub returns-clause-number : goal.returns-clause-number
-returns-clause-number c =
-    let e = at_drop_all (value_from c.loop-digit.n) c.args.digits.now c.loop-digit.digit-index (omega arith) in
-    let i = c.loop-digit.invariant in
     grind (arith, nat_tests)
