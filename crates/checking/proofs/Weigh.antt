@@ -32,7 +32,7 @@ module _ (g : ℕ → Node) (bud : ℕ) (pos : 0 < bud) where
   leaves_two ts r a b left e f k w p = two_ways r a b left w f k (subst (λ (t : List ℕ). Weigh g t w) (sym e) p)
 
 module _ (g : ℕ → Node) (n : ℕ) where
-  light : (left : ℕ) → left + suc (weights g 128 (targets Unguarded (g n))) ≡ 1000 → heavy g n ≡ false
+  pub light : (left : ℕ) → left + suc (weights g 128 (targets Unguarded (g n))) ≡ 1000 → heavy g n ≡ false
   unfolding heavy
   light left e = le-ltb 1000 _ (omega arith)
 

@@ -39,17 +39,25 @@ impl From<CheckFault> for Refusal {
     }
 }
 
-// The cause in plain words.
-impl fmt::Display for CheckFault {
-    ghost output = { λ fault. Some (cause_of fault) };
-
-    fn fmt<W: fmt::Write>(&self, f: &mut fmt::Formatter<W>) -> fmt::Result {
-        f.write_str(match self {
+impl CheckFault {
+    // The cause in plain words, which unlike printing it cannot fail.
+    pub fn cause(&self) -> &'static str
+        ensures { result.now ≡ cause_of self.now }
+    {
+        match *self {
             CheckFault::BadCount => "the count is not 1 to 128",
             CheckFault::BadLayout(_) => "a node breaks the layout",
             CheckFault::Loop(_) => "a node is on a loop",
             CheckFault::TooHeavy(_) => "a node weighs over 1000",
             CheckFault::FreeAtStart => "node 0 has a free variable",
-        })
+        }
+    }
+}
+
+impl fmt::Display for CheckFault {
+    ghost output = { λ fault. Some (cause_of fault) };
+
+    fn fmt<W: fmt::Write>(&self, f: &mut fmt::Formatter<W>) -> fmt::Result {
+        f.write_str(self.cause())
     }
 }

@@ -71,6 +71,10 @@ text_only (x ∷ y ∷ xs) [] e = let p = (pairs_only (x ∷ y ∷ xs) [] e).0 i
 text_only (x ∷ y ∷ xs) (b ∷ bs) e = pairs_only (x ∷ y ∷ xs) (b ∷ bs) e
 
 -- what is written is read back
+octets : (bs : List ℕ) → ((i : ℕ) → get_or bs i 0 < 256) → Octets bs
+octets [] h = tt
+octets (b ∷ bs) h = (h 0, octets bs (λ i. h (suc i)))
+
 digit_lower : (n : ℕ) → n < 16 → lower_case (digit_text n) ≡ digit_text n
 digit_lower n h = grind (arith, nat_tests)
 
@@ -88,3 +92,6 @@ exactly xs r q = record {
   only = λ bs e. text_only xs bs (sym q ∙ e);
   written = λ bs h e. q ∙ text_back xs bs h (ap lowered e ∙ text_lower bs h);
 }
+
+pub written_back : (bs s : List ℕ) → ((i : ℕ) → get_or bs i 0 < 256) → s ≡ hex_text bs → unhexed s ≡ Some bs
+written_back bs s h e = ap unhexed e ∙ text_back (hex_text bs) bs (octets bs h) (text_lower bs (octets bs h))

@@ -1,10 +1,7 @@
 -- Bytes that are read and written two digits at a time.
-use Rattle.std.proofs.Common.{◌≡◌, ℕ, ◌+◌, ◌-◌, ◌/◌, ◌%◌, ◌^◌, ◌<◌, ◌≤◌, eqb, false, List, [], ◌∷◌, ◌++◌, length, get_or, take, drop, Some, None, Option, sym, refl, ap, ◌∙◌, append_assoc, arith}
-use Rattle.std.specs.Fmt.{digit_glyph, digits, format_spec, padded_integral}
+use Rattle.std.proofs.Common.{◌≡◌, ℕ, ◌+◌, ◌/◌, ◌%◌, ◌<◌, ◌≤◌, eqb, false, List, [], ◌∷◌, ◌++◌, length, get_or, take, drop, Some, None, Option, sym, refl, ap, ◌∙◌, append_assoc, arith}
 use Rattle.std.specs.Option.{option_map}
 use Rattle.std.proofs.lemmas.Bool.{ne_eqb}
-use Rattle.std.proofs.lemmas.Bool.Decides.{nat_tests}
-use Rattle.std.proofs.lemmas.Fmt.{hex_byte}
 use Rattle.std.proofs.lemmas.List.{flat_map_more, take_more}
 use Rattle.refusals.specs.Options.{on}
 use Rattle.commands.specs.Hex.{pair_of, pairs_of, unhexed, digit_text, byte_text, digits_text}
@@ -33,20 +30,10 @@ paired [] h n = absurd (omega arith)
 paired (x ∷ []) h n = let e : eqb x 45 ≡ false = ne_eqb x 45 (n refl) in rw e
 paired (x ∷ y ∷ xs) h n = refl
 
--- a byte as it is written in two digits
-written : (b : ℕ) → b < 256 → padded_integral (format_spec 32 0 4 2 (2 ^ 64 - 1)) false [] (digits 16 false b) ≡ byte_text b
-written b h = hex_byte false b h ∙ same
-  where
-    glyph : (n : ℕ) → digit_glyph false n ≡ digit_text n
-    glyph n = grind (arith, nat_tests)
-
-    same : digit_glyph false (b / 16) ∷ digit_glyph false (b % 16) ∷ [] ≡ byte_text b
-    same = rw (glyph (b / 16), glyph (b % 16))
-
--- one byte more of those that are to be written
-pub digits_more : (bs : List ℕ) (i : ℕ) → i < length bs → get_or bs i 0 < 256
-    → digits_text (take i bs) ++ padded_integral (format_spec 32 0 4 2 (2 ^ 64 - 1)) false [] (digits 16 false (get_or bs i 0)) ≡ digits_text (take (i + 1) bs)
-digits_more bs i h k =
-    ap (λ (t : List ℕ). digits_text (take i bs) ++ t) (written (get_or bs i 0) k)
+-- the two digits of one byte more of those that are to be written
+pub digits_more : (bs : List ℕ) (i : ℕ) → i < length bs
+    → (digits_text (take i bs) ++ (digit_text (get_or bs i 0 / 16) ∷ [])) ++ (digit_text (get_or bs i 0 % 16) ∷ []) ≡ digits_text (take (i + 1) bs)
+digits_more bs i h =
+    append_assoc (digits_text (take i bs)) (digit_text (get_or bs i 0 / 16) ∷ []) (digit_text (get_or bs i 0 % 16) ∷ [])
     ∙ flat_map_more byte_text [] (take i bs) (get_or bs i 0)
     ∙ ap digits_text (sym (take_more bs i 0 h))

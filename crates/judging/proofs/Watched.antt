@@ -70,7 +70,7 @@ module _ (r : Rule) (es : List Meaning) (m : Monitor) (w : Watches r es m) where
     }
 
     -- the event that was shown is the line under the entries
-    goes_further : (n : Monitor) (x : Line) (d : Derived Line) → Ok x ≡ log_line_of l log → d ≡ record { below = x; entries = en } → Shown (event_in d) m n
+    pub goes_further : (n : Monitor) (x : Line) (d : Derived Line) → Ok x ≡ log_line_of l log → d ≡ record { below = x; entries = en } → Shown (event_in d) m n
         → GoesOn m (shows (event_in d) (Ok tt)) n → Further r en log l es n
     goes_further n x d q e s u =
         further n x q (subst (λ (z : Derived Line). Shown (event_in z) m n) e s)

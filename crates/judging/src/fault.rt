@@ -47,18 +47,25 @@ impl JudgeFault {
             JudgeFault::Full(line) | JudgeFault::Memory(line) => *line,
         }
     }
+
+    // The cause in plain words, which unlike printing it cannot fail.
+    pub fn cause(&self) -> &'static str
+        ensures { result.now ≡ cause_of self.now }
+    {
+        match self {
+            JudgeFault::TooLong => "the log is over 65536 bytes",
+            JudgeFault::BadLine(fault) => fault.line.word.cause.words(),
+            JudgeFault::Full(_) => "the monitor is full",
+            JudgeFault::Memory(_) => "memory is wanting",
+        }
+    }
 }
 
 impl fmt::Display for JudgeFault {
     ghost output = { λ f. Some (cause_of f) };
 
     fn fmt<W: fmt::Write>(&self, f: &mut fmt::Formatter<W>) -> fmt::Result {
-        match self {
-            JudgeFault::TooLong => f.write_str("the log is over 65536 bytes"),
-            JudgeFault::BadLine(fault) => fault.line.word.cause.fmt(f),
-            JudgeFault::Full(_) => ShowFault::Full.fmt(f),
-            JudgeFault::Memory(_) => ShowFault::Memory.fmt(f),
-        }
+        f.write_str(self.cause())
     }
 }
 

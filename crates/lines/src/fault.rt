@@ -22,16 +22,23 @@ impl Cause {
             Cause::TooLarge => 13,
         }
     }
+
+    // What is wrong, in plain words, which unlike printing it cannot fail.
+    pub fn words(self) -> &'static str
+        ensures { result.now ≡ cause_text self }
+    {
+        match self {
+            Cause::Bad => "bad or missing word",
+            Cause::TooLarge => "number too large",
+        }
+    }
 }
 
 impl fmt::Display for Cause {
     ghost output = { λ x. Some (cause_text x) };
 
     fn fmt<W: fmt::Write>(&self, f: &mut fmt::Formatter<W>) -> fmt::Result {
-        f.write_str(match self {
-            Cause::Bad => "bad or missing word",
-            Cause::TooLarge => "number too large",
-        })
+        f.write_str(self.words())
     }
 }
 

@@ -25,14 +25,23 @@ impl From<RuleFault> for Refusal {
     }
 }
 
+impl RuleFault {
+    // The cause in plain words, which unlike printing it cannot fail.
+    pub fn cause(&self) -> &'static str
+        ensures { result.now ≡ cause_of self.now }
+    {
+        match self {
+            RuleFault::Read(fault) => fault.cause(),
+            RuleFault::Check(fault) => fault.cause(),
+        }
+    }
+}
+
 impl fmt::Display for RuleFault {
     ghost output = { λ f. Some (cause_of f) };
 
     fn fmt<W: fmt::Write>(&self, f: &mut fmt::Formatter<W>) -> fmt::Result {
-        match self {
-            RuleFault::Read(fault) => fault.fmt(f),
-            RuleFault::Check(fault) => fault.fmt(f),
-        }
+        f.write_str(self.cause())
     }
 }
 

@@ -39,17 +39,25 @@ impl From<ReadFault> for Refusal {
     }
 }
 
-// The cause in plain words.
-impl fmt::Display for ReadFault {
-    ghost output = { λ fault. Some (cause_of fault) };
-
-    fn fmt<W: fmt::Write>(&self, f: &mut fmt::Formatter<W>) -> fmt::Result {
-        f.write_str(match self {
+impl ReadFault {
+    // The cause in plain words, which unlike printing it cannot fail.
+    pub fn cause(&self) -> &'static str
+        ensures { result.now ≡ cause_of self.now }
+    {
+        match *self {
             ReadFault::EndsEarly(_) => "the bytes end early",
             ReadFault::BadCount => "the count is not 1 to 128",
             ReadFault::BadLayout(_) => "a node breaks the layout",
             ReadFault::Surplus(_) => "bytes follow the last node",
             ReadFault::ListTooShort => "the list is too short",
-        })
+        }
+    }
+}
+
+impl fmt::Display for ReadFault {
+    ghost output = { λ fault. Some (cause_of fault) };
+
+    fn fmt<W: fmt::Write>(&self, f: &mut fmt::Formatter<W>) -> fmt::Result {
+        f.write_str(self.cause())
     }
 }
