@@ -91,7 +91,7 @@ fn digit_text(n: u8) -> &'static str
 }
 
 // Bytes, written as two digits for each, in lower case, and as `-` where there are none. Each digit is written as a text: `{b:02x}` takes
-// three times as long.
+// five times as long.
 #[derive(Clone, Copy)]
 pub struct Hex<'a>(pub &'a [u8]);
 

@@ -1,7 +1,7 @@
 // A line of each kind of answer, and bytes that are read and written.
 use crate::command::{Command, Usage};
 use crate::fault::{ParseFault, TextFault};
-use crate::hex::{Hex, unhex};
+use crate::hex::{Hex, hex_text, unhex};
 use crate::parse::parse;
 use std::test::Fail;
 
@@ -40,6 +40,8 @@ fn bytes_are_read_and_written(rt: HostRuntime) -> Result<(), Fail> {
         let read = unhex(rt.alloc(), text.as_bytes())?;
         assert_eq!(rt; read.as_slice(), bytes);
         let written = Hex(bytes).to_string(rt.alloc())?;
+        assert_eq!(rt; written.as_str(), text);
+        let written = hex_text(rt.alloc(), bytes)?;
         assert_eq!(rt; written.as_str(), text);
     }
     assert!(rt; matches!(unhex(rt.alloc(), b"0"), Err(TextFault::Malformed)));

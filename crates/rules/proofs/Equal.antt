@@ -1,5 +1,5 @@
 -- The derived equality of substitutions decides whether they are equal.
-use Rattle.std.proofs.Common.{◌≡◌, ℕ, Bool, true, ◌&&◌, eqb, Some, None, Option, refl, ap}
+use Rattle.std.proofs.Common.{◌≡◌, ℕ, Bool, true, ◌&&◌, eqb, Some, None, Option, Decides, sym, refl, ap, ◌∙◌}
 use mathlib.Core.Bool.{false≢true}
 use Rattle.std.specs.Option.{option_eq}
 use Rattle.std.proofs.lemmas.Bool.{and_parts, eqb-true, eq-eqb}
@@ -19,7 +19,7 @@ number_itself (Some k) = eq-eqb k k refl
 abbrev pub all_same : ByVar (Option ℕ) → ByVar (Option ℕ) → Bool
 all_same σ τ = option_eq eqb σ.v0 τ.v0 && (option_eq eqb σ.v1 τ.v1 && (option_eq eqb σ.v2 τ.v2 && option_eq eqb σ.v3 τ.v3))
 
-pub numbers_same : (σ τ : ByVar (Option ℕ)) → all_same σ τ ≡ true → σ ≡ τ
+numbers_same : (σ τ : ByVar (Option ℕ)) → all_same σ τ ≡ true → σ ≡ τ
 numbers_same σ τ q =
     let a = and_parts (option_eq eqb σ.v0 τ.v0) (option_eq eqb σ.v1 τ.v1 && (option_eq eqb σ.v2 τ.v2 && option_eq eqb σ.v3 τ.v3)) q in
     let b = and_parts (option_eq eqb σ.v1 τ.v1) (option_eq eqb σ.v2 τ.v2 && option_eq eqb σ.v3 τ.v3) a.1 in
@@ -30,5 +30,12 @@ numbers_same σ τ q =
     let p3 = number_same σ.v3 τ.v3 c.1 in
     λ i. record { v0 = p0 i; v1 = p1 i; v2 = p2 i; v3 = p3 i }
 
-pub numbers_themselves : (σ : ByVar (Option ℕ)) → all_same σ σ ≡ true
+numbers_themselves : (σ : ByVar (Option ℕ)) → all_same σ σ ≡ true
 numbers_themselves σ = rw (number_itself σ.v0, number_itself σ.v1, number_itself σ.v2, number_itself σ.v3)
+
+-- so where a caller has `==` of two substitutions, it decides whether they are equal
+pub decided : (σ τ : ByVar (Option ℕ)) (b : Bool) → b ≡ all_same σ τ → Decides b (σ ≡ τ)
+decided σ τ b e = (
+  λ h. numbers_same σ τ (sym e ∙ h),
+  λ q. e ∙ ap (all_same σ) (sym q) ∙ numbers_themselves σ,
+)

@@ -4,4 +4,4 @@ mod Back
 mod Only
 mod Law
 mod Sizes
-mod Equal
+pub mod Equal

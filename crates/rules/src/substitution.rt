@@ -7,6 +7,7 @@ use crate::by_var::ByVar;
 pub type Substitution = ByVar<Option<u32>>;
 
 // Whether two give the same numbers to the same variables. This states what the derived `==` decides; callers compare by `==`.
+#[tactic(auto, using(crate::proofs::Equal::decided))]
 pub fn same(a: &Substitution, b: &Substitution) -> bool
     ensures { Decides result (a.now ≡ b.now) }
 {
